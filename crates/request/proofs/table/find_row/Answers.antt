@@ -1,0 +1,25 @@
+use borrow.Author.Needs.{needs}
+use native.Mathlib.Omega.{arith}
+use mathlib.Core.Path.{_∙_, sym, ap}
+use lib.ListN.{drop-of-length-le}
+use Rattle.std.proofs.shelf.Ways.{tells}
+use Rattle.request.specs.declared.table.Kind.the-variants.{Enable}
+use Rattle.request.specs.Table.{find, row}
+use Rattle.request.proofs.Rows.{find-at}
+use Rattle.request.proofs.table.find_row.Needs as need
+
+pub returns-then-row-subtype : need.returns-then-row-subtype
+returns-then-row-subtype c =
+    let e = find-at (c .args .service) (c .args .rows .now) (c .loop-row .row-index) (row 0 0 0 Enable) (omega arith) (c .args .subtype) in
+    let i = c .loop-row .inv in
+    grind (arith, tells)
+
+pub loop-row-again : need.loop-row-again
+loop-row-again c =
+    let e = find-at (c .args .service) (c .args .rows .now) (c .loop-row .row-index) (row 0 0 0 Enable) (omega arith) (c .args .subtype) in
+    let i = c .loop-row .inv in
+    grind (arith, tells)
+
+pub returns : need.returns
+returns c =
+    sym (c .loop-row .inv ∙ ap (find (c .args .service) (c .args .subtype)) (drop-of-length-le (c .args .rows .now) (omega arith)))

@@ -1,0 +1,3 @@
+pub mod Rejection
+pub mod Table
+pub mod Request

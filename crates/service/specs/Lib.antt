@@ -1,0 +1,4 @@
+pub mod State
+pub mod Reports
+pub mod Requests
+pub mod Clock
