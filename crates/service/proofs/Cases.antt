@@ -39,8 +39,8 @@ module _ (p area : List ℕ) where
   -- and of a whole request
   abbrev Answers : State → State → List ℕ → Result Answer Refusal → Accepting → Type 0
   Answers s end after a x =
-      (a ≡ wholeAnswer s p x) × (after ≡ areaAfter s (wholeReports s p x) area)
-      × (end ≡ counted (wholeState s x) (wholeReports s p x))
+      (a ≡ wholeAnswer s p x) × (after ≡ areaAfter s (wholeReports (s .subschedules) (s .apids) p x) area)
+      × (end ≡ counted (wholeState s x) (wholeReports (s .subschedules) (s .apids) p x))
 
   module _ (s end : State) (after : List ℕ) (n : ℕ) (big : 4096 ≤ length area) where
     module _ (t : Told) (ok : Ok t ≡ requestOf p) where
@@ -54,10 +54,10 @@ module _ (p area : List ℕ) where
           (λ g. subst (Accepts s end after (movesOn (holds p t) (record { outcome = WasAccepted; written = n }))) (takes big t ok)
           (ap (λ (k : ℕ). movesOn (holds p t) (record { outcome = WasAccepted; written = k })) (g .written), g .area, g .state))
 
-      pub done : (name : List ℕ) → nameOf p ≡ name → Gives s (carried s (t .asked)) (acceptanceOf (t .ack) name ++ finishReports s (named name)) area after end n →
+      pub done : (name : List ℕ) → nameOf p ≡ name → Gives s (carried s (t .asked)) (acceptanceOf (t .ack) name ++ finishReports (s .subschedules) (s .apids) (named name)) area after end n →
           Answers s end after (Ok (record { outcome = Done 0; written = n })) (accepting p area)
       done name e =
-          subst (λ (m : List ℕ). Gives s (carried s (t .asked)) (acceptanceOf (t .ack) m ++ finishReports s (named m)) area after end n → Answers s end after (Ok (record { outcome = Done 0; written = n })) (accepting p area)) e
+          subst (λ (m : List ℕ). Gives s (carried s (t .asked)) (acceptanceOf (t .ack) m ++ finishReports (s .subschedules) (s .apids) (named m)) area after end n → Answers s end after (Ok (record { outcome = Done 0; written = n })) (accepting p area)) e
           (λ g. subst (Answers s end after (Ok (record { outcome = Done 0; written = n }))) (takes big t ok)
           (ap (λ (k : ℕ). Ok (record { outcome = Done 0; written = k })) (g .written), g .area, g .state))
 

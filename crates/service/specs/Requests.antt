@@ -76,14 +76,14 @@ acceptReports p (rejects r) = rejectionOf r (nameOf p)
 acceptReports p (accepts h) = acceptanceOf (h .ack) (h .name)
 
 -- completion alone
-abbrev pub finishReports : State → Held → List Content
-finishReports s h = dataOf (s .subschedules) (s .apids) (h .asked) ++ completionOf (h .ack) (h .name)
+abbrev pub finishReports : (ℕ → Bool) → (ℕ → Bool) → Held → List Content
+finishReports subschedules apids h = dataOf subschedules apids (h .asked) ++ completionOf (h .ack) (h .name)
 
 -- both in one call
-abbrev pub wholeReports : State → List ℕ → Accepting → List Content
-wholeReports s p lacksRoom = []
-wholeReports s p (rejects r) = rejectionOf r (nameOf p)
-wholeReports s p (accepts h) = acceptanceOf (h .ack) (h .name) ++ finishReports s h
+abbrev pub wholeReports : (ℕ → Bool) → (ℕ → Bool) → List ℕ → Accepting → List Content
+wholeReports subschedules apids p lacksRoom = []
+wholeReports subschedules apids p (rejects r) = rejectionOf r (nameOf p)
+wholeReports subschedules apids p (accepts h) = acceptanceOf (h .ack) (h .name) ++ finishReports subschedules apids h
 
 abbrev pub wholeState : State → Accepting → State
 wholeState s lacksRoom = s
@@ -112,17 +112,17 @@ meantAcceptance (TooShort r) = stays (now (r .octets))
 abbrev pub wholeAnswer : State → List ℕ → Accepting → Result Answer Refusal
 wholeAnswer s p lacksRoom = Err AreaTooShort
 wholeAnswer s p (rejects r) = Ok (answered s (rejectionOf r (nameOf p)) (Rejected (codeOf r)))
-wholeAnswer s p (accepts h) = Ok (answered s (acceptanceOf (h .ack) (h .name) ++ finishReports s h) (Done 0))
+wholeAnswer s p (accepts h) = Ok (answered s (acceptanceOf (h .ack) (h .name) ++ finishReports (s .subschedules) (s .apids) h) (Done 0))
 
 -- the answer of completion: done, or the request keeps its state
 abbrev pub finishAnswer : State → Held → List ℕ → Result Answer Held
-finishAnswer s h area = cond (tooShort area) (Err h) (Ok (answered s (finishReports s h) (Done 0)))
+finishAnswer s h area = cond (tooShort area) (Err h) (Ok (answered s (finishReports (s .subschedules) (s .apids) h) (Done 0)))
 
 abbrev pub finishArea : State → Held → List ℕ → List ℕ
-finishArea s h area = cond (tooShort area) area (areaAfter s (finishReports s h) area)
+finishArea s h area = cond (tooShort area) area (areaAfter s (finishReports (s .subschedules) (s .apids) h) area)
 
 abbrev pub finishState : State → Held → List ℕ → State
-finishState s h area = cond (tooShort area) s (counted (carried s (h .asked)) (finishReports s h))
+finishState s h area = cond (tooShort area) s (counted (carried s (h .asked)) (finishReports (s .subschedules) (s .apids) h))
 
 abbrev pub meantCompletion : Result Completed Accepted → Result Answer Held
 meantCompletion (Ok c) = Ok (c .answer)

@@ -160,7 +160,7 @@ impl Service {
     fn finish(&mut self, part: &mut [u8], request: Accepted) -> usize
         requires { ⌜ 4000 ≤ length (now part) ⌝ }
         ensures short { λ r. ⌜ r ≤ 276 ⌝ }
-        ensures gives { λ r. ⌜ Gives (view (now (self .entry))) (carried (view (now (self .entry))) (heldIn (request .entry) .asked)) (finishReports (view (now (self .entry))) (heldIn (request .entry))) (now (part .entry)) (now (part .exit)) (view (now (self .exit))) r ⌝ }
+        ensures gives { λ r. ⌜ Gives (view (now (self .entry))) (carried (view (now (self .entry))) (heldIn (request .entry) .asked)) (finishReports (view (now (self .entry)) .subschedules) (view (now (self .entry)) .apids) (heldIn (request .entry))) (now (part .entry)) (now (part .exit)) (view (now (self .exit))) r ⌝ }
     {
         let Accepted { name, telecommand } = request;
         let at = self.carry_out(part, telecommand.request);
@@ -220,8 +220,8 @@ impl Service {
     /// A whole request: acceptance and completion in one call, over one area.
     pub fn request(&mut self, octets: &[u8], area: &mut [u8]) -> Result<Answer, Refusal>
         ensures answer { λ r. ⌜ r ≡ wholeAnswer (view (now (self .entry))) (now (octets .entry)) (accepting (now (octets .entry)) (now (area .entry))) ⌝ }
-        ensures area { λ _. ⌜ now (area .exit) ≡ areaAfter (view (now (self .entry))) (wholeReports (view (now (self .entry))) (now (octets .entry)) (accepting (now (octets .entry)) (now (area .entry)))) (now (area .entry)) ⌝ }
-        ensures state { λ _. ⌜ view (now (self .exit)) ≡ counted (wholeState (view (now (self .entry))) (accepting (now (octets .entry)) (now (area .entry)))) (wholeReports (view (now (self .entry))) (now (octets .entry)) (accepting (now (octets .entry)) (now (area .entry)))) ⌝ }
+        ensures area { λ _. ⌜ now (area .exit) ≡ areaAfter (view (now (self .entry))) (wholeReports (view (now (self .entry)) .subschedules) (view (now (self .entry)) .apids) (now (octets .entry)) (accepting (now (octets .entry)) (now (area .entry)))) (now (area .entry)) ⌝ }
+        ensures state { λ _. ⌜ view (now (self .exit)) ≡ counted (wholeState (view (now (self .entry))) (accepting (now (octets .entry)) (now (area .entry)))) (wholeReports (view (now (self .entry)) .subschedules) (view (now (self .entry)) .apids) (now (octets .entry)) (accepting (now (octets .entry)) (now (area .entry)))) ⌝ }
     {
         if area.len() < LEAST_AREA {
             return Err(Refusal::AreaTooShort);

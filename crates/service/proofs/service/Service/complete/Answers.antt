@@ -25,7 +25,7 @@ returns c =
     record {
       answer =
           ap (λ (k : ℕ). ok (record { outcome = Done 0; written = k })) (g .written)
-          ∙ sym (cond-false (tooShort area) (Err h) (Ok (answered s (finishReports s h) (Done 0))) no);
-      area = g .area ∙ sym (cond-false (tooShort area) area (areaAfter s (finishReports s h) area) no);
-      state = g .state ∙ sym (cond-false (tooShort area) s (counted (carried s (h .asked)) (finishReports s h)) no);
+          ∙ sym (cond-false (tooShort area) (Err h) (Ok (answered s (finishReports (s .subschedules) (s .apids) h) (Done 0))) no);
+      area = g .area ∙ sym (cond-false (tooShort area) area (areaAfter s (finishReports (s .subschedules) (s .apids) h) area) no);
+      state = g .state ∙ sym (cond-false (tooShort area) s (counted (carried s (h .asked)) (finishReports (s .subschedules) (s .apids) h)) no);
     }

@@ -41,8 +41,8 @@ returns c =
     let first = c .give-acceptance-at .ensures .gives in
     let both =
     and-then s (s .subschedules) (s .apids) (subschedulesAfter (t .asked) (s .subschedules)) (apidsAfter (t .asked) (s .apids))
-    (acceptanceOf (t .ack) name) (finishReports s h) (c .args .area .now) a b at n end (first .written) (first .area) (omega arith)
-    (subst (λ (z : State). Gives z (carried z (t .asked)) (finishReports z h) (take (length a - at) (drop at a)) b end n) (first .state) (c .finish-n .ensures .gives)) in
+    (acceptanceOf (t .ack) name) (finishReports (s .subschedules) (s .apids) h) (c .args .area .now) a b at n end (first .written) (first .area) (omega arith)
+    (subst (λ (z : State). Gives z (carried z (t .asked)) (finishReports (z .subschedules) (z .apids) h) (take (length a - at) (drop at a)) b end n) (first .state) (c .finish-n .ensures .gives)) in
     let r =
     done (c .args .octets .now) (c .args .area .now) s end (putMid at (length a - at) a b) (at + n)
     big t (c .in-Ok .ensures tt) name (sym (c .name-of-name .ensures)) both in

@@ -1,0 +1,4 @@
+pub mod Moves
+pub mod Keeps
+pub mod Runs
+pub mod Ends
