@@ -42,8 +42,8 @@ after s rs f g = record { clock = s .clock; count = countAfter (s .count) rs; su
 
 module _ (s : State) (p : List ℕ) where
   whole-state : (b : Bool) (r : Result Told Rejection) →
-    counted (wholeState s (cond b lacksRoom (judged p r))) (wholeReports (s .subschedules) (s .apids) p (cond b lacksRoom (judged p r)))
-    ≡ after s (ifAnswered (wholeReply (wholeAnswer s p (cond b lacksRoom (judged p r)))) (wholeReports (s .subschedules) (s .apids) p (judged p r)) [])
+      counted (wholeState s (cond b lacksRoom (judged p r))) (wholeReports (s .subschedules) (s .apids) p (cond b lacksRoom (judged p r)))
+      ≡ after s (ifAnswered (wholeReply (wholeAnswer s p (cond b lacksRoom (judged p r)))) (wholeReports (s .subschedules) (s .apids) p (judged p r)) [])
       (subschedulesBy (ifDone (wholeReply (wholeAnswer s p (cond b lacksRoom (judged p r)))) (askedOf (heldBy p r)) None) (s .subschedules))
       (apidsBy (ifDone (wholeReply (wholeAnswer s p (cond b lacksRoom (judged p r)))) (askedOf (heldBy p r)) None) (s .apids))
   whole-state true r = refl
@@ -51,14 +51,14 @@ module _ (s : State) (p : List ℕ) where
   whole-state false (Err e) = refl
 
   accept-state : (b : Bool) (r : Result Told Rejection) →
-    counted s (acceptReports p (cond b lacksRoom (judged p r)))
-    ≡ after s (ifAnswered (acceptReply (acceptAnswer s p (cond b lacksRoom (judged p r)))) (acceptReports p (judged p r)) []) (s .subschedules) (s .apids)
+      counted s (acceptReports p (cond b lacksRoom (judged p r)))
+      ≡ after s (ifAnswered (acceptReply (acceptAnswer s p (cond b lacksRoom (judged p r)))) (acceptReports p (judged p r)) []) (s .subschedules) (s .apids)
   accept-state true r = refl
   accept-state false (Ok t) = refl
   accept-state false (Err e) = refl
 
   accept-held : (b : Bool) (r : Result Told Rejection) →
-    acceptHeld (acceptAnswer s p (cond b lacksRoom (judged p r))) ≡ ifAccepted (acceptReply (acceptAnswer s p (cond b lacksRoom (judged p r)))) (heldBy p r) None
+      acceptHeld (acceptAnswer s p (cond b lacksRoom (judged p r))) ≡ ifAccepted (acceptReply (acceptAnswer s p (cond b lacksRoom (judged p r)))) (heldBy p r) None
   accept-held true r = refl
   accept-held false (Ok t) = refl
   accept-held false (Err e) = refl
@@ -77,8 +77,8 @@ module _ (s : State) (p : List ℕ) where
   heldWith b (Some h) k xs = cond b xs (ended k xs)
 
   complete-state : (b : Bool) (o : Option Held) →
-    completeWith b o
-    ≡ after s (ifAnswered (replyWith b o) (finishedBy (s .subschedules) (s .apids) o) []) (subschedulesBy (ifDone (replyWith b o) (askedOf o) None) (s .subschedules)) (apidsBy (ifDone (replyWith b o) (askedOf o) None) (s .apids))
+      completeWith b o
+      ≡ after s (ifAnswered (replyWith b o) (finishedBy (s .subschedules) (s .apids) o) []) (subschedulesBy (ifDone (replyWith b o) (askedOf o) None) (s .subschedules)) (apidsBy (ifDone (replyWith b o) (askedOf o) None) (s .apids))
   complete-state b None = refl
   complete-state true (Some h) = refl
   complete-state false (Some h) = refl
@@ -89,13 +89,13 @@ module _ (s : State) (p : List ℕ) where
   complete-held false (Some h) k xs = refl
 
   clock-state : (t : ℕ) (b d : Bool) →
-    cond b (cond d s (clocked s t)) s
-    ≡ record {
-      clock = ifSet (clockReply (cond b (cond d (Err ClockBackward) (Ok tt)) (Err TimeBeyondRange))) t (s .clock);
-      count = s .count;
-      subschedules = s .subschedules;
-      apids = s .apids;
-    }
+      cond b (cond d s (clocked s t)) s
+      ≡ record {
+        clock = ifSet (clockReply (cond b (cond d (Err ClockBackward) (Ok tt)) (Err TimeBeyondRange))) t (s .clock);
+        count = s .count;
+        subschedules = s .subschedules;
+        apids = s .apids;
+      }
   clock-state t true true = refl
   clock-state t true false = refl
   clock-state t false d = refl
@@ -107,8 +107,8 @@ module _ (h : Log) where
 
   -- the count of the reports given
   counts : (e : Entry) (t : ℕ) (f g : ℕ → Bool) →
-    _≡_ {A = State} (record { clock = t; count = countAfter (reportsGiven h % 16384) (given h e); subschedules = f; apids = g })
-    (record { clock = t; count = reportsGiven (e ∷ h) % 16384; subschedules = f; apids = g })
+      _≡_ {A = State} (record { clock = t; count = countAfter (reportsGiven h % 16384) (given h e); subschedules = f; apids = g })
+      (record { clock = t; count = reportsGiven (e ∷ h) % 16384; subschedules = f; apids = g })
   counts e t f g = ap (λ (n : ℕ). record { clock = t; count = n; subschedules = f; apids = g }) (count-given (reportsGiven h) (given h e))
 
   abbrev entry : Call → List ℕ → Entry
@@ -118,46 +118,48 @@ module _ (h : Log) where
   state-kept (requests p) area = whole-state s₀ p (tooShort area) (requestOf p) ∙ counts (entry (requests p) area) _ _ _
   state-kept (accepts p) area = accept-state s₀ p (tooShort area) (requestOf p) ∙ counts (entry (accepts p) area) _ _ _
   state-kept (completes k) area =
-    by-held (heldAt k (stillAccepted h))
-    ∙ complete-state s₀ [] (tooShort area) (heldAt k (stillAccepted h))
-    ∙ ap (λ (r : Reply). record { clock = clockOf h; count = countAfter (reportsGiven h % 16384) (ifAnswered r (finishedBy (enabledSubschedule h) (enabledApid h) (heldAt k (stillAccepted h))) []); subschedules = subschedulesBy (ifDone r (askedOf (heldAt k (stillAccepted h))) None) (enabledSubschedule h); apids = apidsBy (ifDone r (askedOf (heldAt k (stillAccepted h))) None) (enabledApid h) })
+      by-held (heldAt k (stillAccepted h))
+      ∙ complete-state s₀ [] (tooShort area) (heldAt k (stillAccepted h))
+      ∙ ap (λ (r : Reply). record { clock = clockOf h; count = countAfter (reportsGiven h % 16384) (ifAnswered r (finishedBy (enabledSubschedule h) (enabledApid h) (heldAt k (stillAccepted h))) []); subschedules = subschedulesBy (ifDone r (askedOf (heldAt k (stillAccepted h))) None) (enabledSubschedule h); apids = apidsBy (ifDone r (askedOf (heldAt k (stillAccepted h))) None) (enabledApid h) })
       (reply-by (heldAt k (stillAccepted h)))
-    ∙ counts (entry (completes k) area) _ _ _
+      ∙ counts (entry (completes k) area) _ _ _
     where
-    by-held : (o : Option Held) → completeState s₀ o area ≡ completeWith s₀ [] (tooShort area) o
-    by-held None = refl
-    by-held (Some x) = refl
-    reply-by : (o : Option Held) → replyWith s₀ [] (tooShort area) o ≡ completeReply s₀ o area
-    reply-by None = refl
-    reply-by (Some x) = refl
+      by-held : (o : Option Held) → completeState s₀ o area ≡ completeWith s₀ [] (tooShort area) o
+      by-held None = refl
+      by-held (Some x) = refl
+
+      reply-by : (o : Option Held) → replyWith s₀ [] (tooShort area) o ≡ completeReply s₀ o area
+      reply-by None = refl
+      reply-by (Some x) = refl
   state-kept (setsClock t) area = clock-state s₀ [] t (ltb t (2 ^ 48)) (ltb t (clockOf h)) ∙ counts (entry (setsClock t) area) _ _ _
 
   pub held-kept : (c : Call) (area : List ℕ) → stepHeld (afterAll h) c area ≡ stillAccepted (entry c area ∷ h)
   held-kept (requests p) area = refl
   held-kept (accepts p) area = ap (λ (o : Option Held). stillAccepted h ++ o ∷ []) (accept-held s₀ p (tooShort area) (requestOf p))
   held-kept (completes k) area =
-    by-held (heldAt k (stillAccepted h))
-    ∙ complete-held s₀ [] (tooShort area) (heldAt k (stillAccepted h)) k (stillAccepted h)
-    ∙ ap (λ (r : Reply). ifDone r (ended k (stillAccepted h)) (stillAccepted h)) (reply-by (heldAt k (stillAccepted h)))
+      by-held (heldAt k (stillAccepted h))
+      ∙ complete-held s₀ [] (tooShort area) (heldAt k (stillAccepted h)) k (stillAccepted h)
+      ∙ ap (λ (r : Reply). ifDone r (ended k (stillAccepted h)) (stillAccepted h)) (reply-by (heldAt k (stillAccepted h)))
     where
-    by-held : (o : Option Held) → completeHeld k o area (stillAccepted h) ≡ heldWith s₀ [] (tooShort area) o k (stillAccepted h)
-    by-held None = refl
-    by-held (Some x) = refl
-    reply-by : (o : Option Held) → replyWith s₀ [] (tooShort area) o ≡ completeReply s₀ o area
-    reply-by None = refl
-    reply-by (Some x) = refl
+      by-held : (o : Option Held) → completeHeld k o area (stillAccepted h) ≡ heldWith s₀ [] (tooShort area) o k (stillAccepted h)
+      by-held None = refl
+      by-held (Some x) = refl
+
+      reply-by : (o : Option Held) → replyWith s₀ [] (tooShort area) o ≡ completeReply s₀ o area
+      reply-by None = refl
+      reply-by (Some x) = refl
   held-kept (setsClock t) area = refl
 
   pub kept : (c : Call) (area : List ℕ) → Lawful h → History (entry c area ∷ h) (stepMachine (afterAll h) c area)
   kept c area lawful =
-    record {
-      lawful = (record { reply = refl; area = refl }, lawful);
-      agrees = λ i. record { state = state-kept c area i; held = held-kept c area i };
-    }
+      record {
+        lawful = (record { reply = refl; area = refl }, lawful);
+        agrees = λ i. record { state = state-kept c area i; held = held-kept c area i };
+      }
 
 -- one call on a machine that agrees with a history, by what the call said of itself
 pub stepped : (h : Log) (m end : Machine) (c : Call) (area : List ℕ) (reply : Reply) (after : List ℕ) →
-  Steps m c area end reply after → History h m → History (noted c area reply after h) end
+    Steps m c area end reply after → History h m → History (noted c area reply after h) end
 stepped h m end c area reply after steps history =
     let e₁ : reply ≡ stepReply (afterAll h) c area = steps .reply-is ∙ ap (λ (n : Machine). stepReply n c area) (history .agrees) in
     let e₂ : after ≡ stepArea (afterAll h) c area = steps .area-is ∙ ap (λ (n : Machine). stepArea n c area) (history .agrees) in

@@ -24,12 +24,12 @@ use Rattle.history.specs.Log.{accepts}
 use Rattle.history.specs.Session.{Machine, heldSlot, heldSlots, heldAt, ended, acceptReply, acceptHeld, canComplete, Steps}
 
 pub accept-steps : (s end : State) (xs ys : List (Option Accepted)) (x : Option Accepted) (p area after : List ℕ) (a : Accepted′) →
-  a ≡ acceptAnswer s p (accepting p area) → after ≡ areaAfter s (acceptReports p (accepting p area)) area →
-  end ≡ counted s (acceptReports p (accepting p area)) → ys ≡ xs ++ x ∷ [] → heldSlot x ≡ acceptHeld a →
-  Steps (record { state = s; held = heldSlots xs }) (accepts p) area (record { state = end; held = heldSlots ys }) (acceptReply a) after
+    a ≡ acceptAnswer s p (accepting p area) → after ≡ areaAfter s (acceptReports p (accepting p area)) area →
+    end ≡ counted s (acceptReports p (accepting p area)) → ys ≡ xs ++ x ∷ [] → heldSlot x ≡ acceptHeld a →
+    Steps (record { state = s; held = heldSlots xs }) (accepts p) area (record { state = end; held = heldSlots ys }) (acceptReply a) after
 accept-steps s end xs ys x p area after a answer written state pushed held =
     let slots : heldSlots ys ≡ heldSlots xs ++ acceptHeld (acceptAnswer s p (accepting p area)) ∷ [] =
-          ap heldSlots pushed ∙ map-append heldSlot xs (x ∷ []) ∙ ap (λ (h : Option Held). heldSlots xs ++ h ∷ []) (held ∙ ap acceptHeld answer) in
+    ap heldSlots pushed ∙ map-append heldSlot xs (x ∷ []) ∙ ap (λ (h : Option Held). heldSlots xs ++ h ∷ []) (held ∙ ap acceptHeld answer) in
     record {
       reply-is = ap acceptReply answer;
       area-is = written;
@@ -74,19 +74,19 @@ take-set (x ∷ xs) zero y z h = ap (λ (l : List _). y ∷ l) (take-at xs (z �
 take-set (x ∷ xs) (suc i) y z h = ap (λ (l : List _). x ∷ l) (take-set xs i y z (omega arith))
 
 module _ (xs ys zs : List (Option Accepted)) (n : ℕ) (r : Option Accepted) (low : 1 ≤ n) (high : n ≤ length xs)
-  (pushed : ys ≡ xs ++ None ∷ []) where
+    (pushed : ys ≡ xs ++ None ∷ []) where
   pub taken : r ≡ getD ys (n - 1) r → heldSlot r ≡ heldAt n (heldSlots xs)
   taken e =
-    ap heldSlot (e ∙ ap (λ (l : List (Option Accepted)). getD l (n - 1) r) pushed ∙ getD-append-left xs (None ∷ []) r (n - 1) (omega arith))
-    ∙ sym (at-place xs n r low high)
+      ap heldSlot (e ∙ ap (λ (l : List (Option Accepted)). getD l (n - 1) r) pushed ∙ getD-append-left xs (None ∷ []) r (n - 1) (omega arith))
+      ∙ sym (at-place xs n r low high)
 
   pub emptied : zs ≡ swapped ys (n - 1) r → heldSlots zs ≡ ended n (heldSlots xs)
   emptied e =
-    let size : length ys ≡ length xs + 1 = ap length pushed ∙ length-push xs None in
-    let last : getD ys (length ys - 1) r ≡ None =
-          ap (λ (l : List (Option Accepted)). getD l (length ys - 1) r) pushed ∙ getD-push xs None r (length ys - 1) (let q : length xs ≡ length ys - 1 = omega arith in q) in
-    ap heldSlots
-    (e ∙ ap (λ (o : Option Accepted). take (length ys - 1) (set ys (n - 1) o)) last
+      let size : length ys ≡ length xs + 1 = ap length pushed ∙ length-push xs None in
+      let last : getD ys (length ys - 1) r ≡ None =
+      ap (λ (l : List (Option Accepted)). getD l (length ys - 1) r) pushed ∙ getD-push xs None r (length ys - 1) (let q : length xs ≡ length ys - 1 = omega arith in q) in
+      ap heldSlots
+      (e ∙ ap (λ (o : Option Accepted). take (length ys - 1) (set ys (n - 1) o)) last
       ∙ ap (λ (k : ℕ). take k (set ys (n - 1) None)) (let q : length ys - 1 ≡ length xs = omega arith in q)
       ∙ ap (λ (l : List (Option Accepted)). take (length xs) (set l (n - 1) None)) pushed ∙ take-set xs (n - 1) None None (omega arith))
-    ∙ ended-place xs n low
+      ∙ ended-place xs n low

@@ -15,7 +15,7 @@ use Rattle.history.proofs.Keeps.{stepped, start}
 
 -- a call with a note adds its entry at the end
 entries-more : (cs : List Asked) (ns ms : List Note) (i : ℕ) (m : Note) (c : Asked) (n : Note) → i < length cs → i < length ns → length ms ≡ length ns →
-  entriesOf (take (suc i) cs) ns (set ms i m) ≡ entriesOf (take i cs) ns ms ++ entryOf (getD cs i c) (getD ns i n) m ∷ []
+    entriesOf (take (suc i) cs) ns (set ms i m) ≡ entriesOf (take i cs) ns ms ++ entryOf (getD cs i c) (getD ns i n) m ∷ []
 entries-more [] ns ms i m c n hc hn e = absurd (omega arith)
 entries-more (c₀ ∷ cs) [] ms i m c n hc hn e = absurd (omega arith)
 entries-more (c₀ ∷ cs) (n₀ ∷ ns) [] i m c n hc hn e = absurd (omega arith)
@@ -50,16 +50,16 @@ abbrev pub Told : List Asked → List Note → List Note → ℕ → Machine →
 Told cs ns ms i mach = History (reverse (entriesOf (take i cs) ns ms)) mach
 
 pub turn : (cs : List Asked) (ns ms : List Note) (i : ℕ) (d : Asked) (x m : Note) (mach end : Machine) →
-  i < length cs → i < length ms → length ms ≡ length ns → drop i ms ≡ drop i ns →
-  Steps mach (callIn (getD cs i d)) (areaIn (getD ms i x)) end (m .reply) (areaIn m) → Told cs ns ms i mach → Told cs ns (set ms i m) (i + 1) end
+    i < length cs → i < length ms → length ms ≡ length ns → drop i ms ≡ drop i ns →
+    Steps mach (callIn (getD cs i d)) (areaIn (getD ms i x)) end (m .reply) (areaIn m) → Told cs ns ms i mach → Told cs ns (set ms i m) (i + 1) end
 turn cs ns ms i d x m mach end hc hm size rest steps told =
     let c : Asked = getD cs i d in
     let old : Note = getD ms i x in
     let log : entryOf c old m ∷ reverse (entriesOf (take i cs) ns ms) ≡ reverse (entriesOf (take (i + 1) cs) ns (set ms i m)) =
-          ap (λ (y : Note). entryOf c y m ∷ reverse (entriesOf (take i cs) ns ms)) (same-at ns ms i x rest)
-          ∙ sym (reverse-append (entriesOf (take i cs) ns ms) (entryOf c (getD ns i x) m ∷ []))
-          ∙ ap reverse (sym (entries-more cs ns ms i m d x hc (let q : i < length ns = omega arith in q) size))
-          ∙ ap (λ (k : ℕ). reverse (entriesOf (take k cs) ns (set ms i m))) (sym (add-one i)) in
+    ap (λ (y : Note). entryOf c y m ∷ reverse (entriesOf (take i cs) ns ms)) (same-at ns ms i x rest)
+    ∙ sym (reverse-append (entriesOf (take i cs) ns ms) (entryOf c (getD ns i x) m ∷ []))
+    ∙ ap reverse (sym (entries-more cs ns ms i m d x hc (let q : i < length ns = omega arith in q) size))
+    ∙ ap (λ (k : ℕ). reverse (entriesOf (take k cs) ns (set ms i m))) (sym (add-one i)) in
     subst (λ (h : Log). History h end) log
     (stepped (reverse (entriesOf (take i cs) ns ms)) mach end (callIn c) (areaIn old) (m .reply) (areaIn m) steps told)
 

@@ -20,7 +20,7 @@ returns-then-number-eq0 c =
     let xs : List (Option Accepted) = c .args .slots .now in
     let n : ℕ = c .args .number in
     let out : (n ≡ 0) ⊎ (length xs < n) =
-          elim (c .then-number-eq0 .came) [ then-number-eq0·by·then-number-eq0 w ↦ inl (w .if-number-eq0 .taken) | then-number-eq0·by·else-number-eq0·then-number-slots w ↦ inr (w .if-number-slots .taken) ] in
+    elim (c .then-number-eq0 .came) [ then-number-eq0·by·then-number-eq0 w ↦ inl (w .if-number-eq0 .taken) | then-number-eq0·by·else-number-eq0·then-number-slots w ↦ inr (w .if-number-slots .taken) ] in
     record { value = can-not-find (heldAt n (heldSlots xs)) (tooShort (c .args .area .now)) (no-place xs n out); within = tt }
 
 pub returns-in-rest : need.returns-in-rest

@@ -14,6 +14,6 @@ returns c =
       steps =
           subst (λ (l : List ℕ). Steps (machineOf (c .args .session .now)) (callIn (c .args .call)) (c .args .note .now .area .items) (machineOf (c .step-note .last .self)) (c .step-note .result) l) (sym same)
           (subst (λ (l : List ℕ). Steps (machineOf (c .args .session .now)) (callIn (c .args .call)) l (machineOf (c .step-note .last .self)) (c .step-note .result) (c .step-note .last .area)) (c .as-mut-slice .ensures .value)
-            (c .step-note .ensures .steps));
+          (c .step-note .ensures .steps));
       kept = c .step-note .ensures .kept;
     }

@@ -20,7 +20,7 @@ loop-i-holds c =
     let made = c .in-Continue-accepted .ensures tt .made in
     let none : heldSlots (vec-items (c .in-Continue-accepted .accepted)) ≡ [] = ap heldSlots (made .0) in
     let start : machineOf (record { service = c .new .result; accepted = c .in-Continue-accepted .accepted }) ≡ afterAll [] =
-          λ i. record { state = c .new .ensures i; held = none i } in
+    λ i. record { state = c .new .ensures i; held = none i } in
     (begun (c .args .calls .now) (c .args .notes .now) (c .args .notes .now) _ start, refl, omega (arith, made .1 .0), made .1 .1)
 
 pub loop-i-again : need.loop-i-again
@@ -30,28 +30,30 @@ loop-i-again c =
     let ms : List Note = c .loop-i .notes in
     let inv = c .loop-i .inv in
     elim (c .if-i-notes .came) [
-      then-i-notes w ↦
-        (let m : Note = w .make-call .last .note in
-        let hc : i < length (c .args .calls .now) = omega arith in
-        let hm : i < length ms = omega (arith, w .if-i-notes .taken) in
-        let size : length ms ≡ length ns = c .loop-i .kept .notes in
-        let told : Told (c .args .calls .now) ns (set ms i m) (i + 1) (machineOf (w .make-call .last .session)) =
-              turn (c .args .calls .now) ns ms i _ (w .index-notes-i .result) m (machineOf (c .loop-i .session)) (machineOf (w .make-call .last .session))
-              hc hm size (inv .1) (w .make-call .ensures .steps) (inv .0) in
-        ( subst (λ (s : Session). Told (c .args .calls .now) ns (c .if-i-notes .notes) (i + 1) (machineOf s)) (sym (w .session-is))
-            (subst (λ (l : List Note). Told (c .args .calls .now) ns l (i + 1) (machineOf (w .make-call .last .session))) (sym (w .notes-is)) told)
-        , ap (drop (i + 1)) (w .notes-is) ∙ rest-set ns ms i m (inv .1)
-        , (let e = ap (λ (s : Session). vec-len (s .accepted)) (w .session-is) in omega (arith, w .make-call .ensures .kept .0, inv .2))
-        , (let e = ap (λ (s : Session). vec-cap (s .accepted)) (w .session-is) in omega (arith, w .make-call .ensures .kept .1, inv .3)) ))
-    | else-i-notes w ↦
-        (let size : length ms ≡ length ns = c .loop-i .kept .notes in
-        let past : length ns ≤ i = omega (arith, w .if-i-notes .left) in
-        let told : Told (c .args .calls .now) ns ms (i + 1) (machineOf (c .loop-i .session)) = idle (c .args .calls .now) ns ms i (machineOf (c .loop-i .session)) past (inv .0) in
-        ( subst (λ (s : Session). Told (c .args .calls .now) ns (c .if-i-notes .notes) (i + 1) (machineOf s)) (sym (w .session-is))
-            (subst (λ (l : List Note). Told (c .args .calls .now) ns l (i + 1) (machineOf (c .loop-i .session))) (sym (w .notes-is)) told)
-        , ap (drop (i + 1)) (w .notes-is) ∙ rest-same ns ms i (inv .1)
-        , (let e = ap (λ (s : Session). vec-len (s .accepted)) (w .session-is) in omega (arith, inv .2))
-        , (let e = ap (λ (s : Session). vec-cap (s .accepted)) (w .session-is) in omega (arith, inv .3)) ))
+      | then-i-notes w ↦
+          (let m : Note = w .make-call .last .note in
+          let hc : i < length (c .args .calls .now) = omega arith in
+          let hm : i < length ms = omega (arith, w .if-i-notes .taken) in
+          let size : length ms ≡ length ns = c .loop-i .kept .notes in
+          let told : Told (c .args .calls .now) ns (set ms i m) (i + 1) (machineOf (w .make-call .last .session)) =
+          turn (c .args .calls .now) ns ms i _ (w .index-notes-i .result) m (machineOf (c .loop-i .session)) (machineOf (w .make-call .last .session))
+          hc hm size (inv .1) (w .make-call .ensures .steps) (inv .0) in (
+            subst (λ (s : Session). Told (c .args .calls .now) ns (c .if-i-notes .notes) (i + 1) (machineOf s)) (sym (w .session-is))
+                (subst (λ (l : List Note). Told (c .args .calls .now) ns l (i + 1) (machineOf (w .make-call .last .session))) (sym (w .notes-is)) told),
+            ap (drop (i + 1)) (w .notes-is) ∙ rest-set ns ms i m (inv .1),
+            (let e = ap (λ (s : Session). vec-len (s .accepted)) (w .session-is) in omega (arith, w .make-call .ensures .kept .0, inv .2)),
+            (let e = ap (λ (s : Session). vec-cap (s .accepted)) (w .session-is) in omega (arith, w .make-call .ensures .kept .1, inv .3)),
+          ))
+      | else-i-notes w ↦
+          (let size : length ms ≡ length ns = c .loop-i .kept .notes in
+          let past : length ns ≤ i = omega (arith, w .if-i-notes .left) in
+          let told : Told (c .args .calls .now) ns ms (i + 1) (machineOf (c .loop-i .session)) = idle (c .args .calls .now) ns ms i (machineOf (c .loop-i .session)) past (inv .0) in (
+            subst (λ (s : Session). Told (c .args .calls .now) ns (c .if-i-notes .notes) (i + 1) (machineOf s)) (sym (w .session-is))
+                (subst (λ (l : List Note). Told (c .args .calls .now) ns l (i + 1) (machineOf (c .loop-i .session))) (sym (w .notes-is)) told),
+            ap (drop (i + 1)) (w .notes-is) ∙ rest-same ns ms i (inv .1),
+            (let e = ap (λ (s : Session). vec-len (s .accepted)) (w .session-is) in omega (arith, inv .2)),
+            (let e = ap (λ (s : Session). vec-cap (s .accepted)) (w .session-is) in omega (arith, inv .3)),
+          ))
     ]
 
 pub returns : need.returns

@@ -20,8 +20,8 @@ returns-in-Accepted c =
       steps =
           subst (λ (p : List ℕ). Steps (machineOf (c .args .self .now)) (accepts p) (c .args .area .now) end (Answered (c .in-Accepted .answer)) (c .accept .last .area)) (c .new .ensures)
           (accept-steps s (view (c .accept .last .self)) (vec-items (c .args .self .now .accepted)) (vec-items (c .push-reserved .last .self)) (Some (c .in-Accepted .request))
-            (c .new .result .octets .now) (c .args .area .now) (c .accept .last .area) (movesOn (heldIn (c .in-Accepted .request)) (c .in-Accepted .answer))
-            (c .in-Accepted .ensures tt .answer) (c .accept .ensures .area) (c .accept .ensures .state) (c .push-reserved .ensures .items) refl);
+          (c .new .result .octets .now) (c .args .area .now) (c .accept .last .area) (movesOn (heldIn (c .in-Accepted .request)) (c .in-Accepted .answer))
+          (c .in-Accepted .ensures tt .answer) (c .accept .ensures .area) (c .accept .ensures .state) (c .push-reserved .ensures .items) refl);
       kept = (c .push-reserved .ensures .len, c .push-reserved .ensures .capacity);
     }
 
@@ -33,8 +33,8 @@ returns-in-Rejected c =
       steps =
           subst (λ (p : List ℕ). Steps (machineOf (c .args .self .now)) (accepts p) (c .args .area .now) end (Answered (c .in-Rejected .answer)) (c .accept .last .area)) (c .new .ensures)
           (accept-steps s (view (c .accept .last .self)) (vec-items (c .args .self .now .accepted)) (vec-items (c .push-reserved-in-Rejected .last .self)) None
-            (c .new .result .octets .now) (c .args .area .now) (c .accept .last .area) (ends (c .in-Rejected .answer))
-            (c .in-Rejected .ensures tt .answer) (c .accept .ensures .area) (c .accept .ensures .state) (c .push-reserved-in-Rejected .ensures .items) refl);
+          (c .new .result .octets .now) (c .args .area .now) (c .accept .last .area) (ends (c .in-Rejected .answer))
+          (c .in-Rejected .ensures tt .answer) (c .accept .ensures .area) (c .accept .ensures .state) (c .push-reserved-in-Rejected .ensures .items) refl);
       kept = (c .push-reserved-in-Rejected .ensures .len, c .push-reserved-in-Rejected .ensures .capacity);
     }
 
@@ -46,7 +46,7 @@ returns-in-ShortArea c =
       steps =
           subst (λ (p : List ℕ). Steps (machineOf (c .args .self .now)) (accepts p) (c .args .area .now) end (Refused AreaTooShort) (c .accept .last .area)) (c .new .ensures)
           (accept-steps s (view (c .accept .last .self)) (vec-items (c .args .self .now .accepted)) (vec-items (c .push-reserved-in-ShortArea .last .self)) None
-            (c .new .result .octets .now) (c .args .area .now) (c .accept .last .area) (stays (c .in-ShortArea .field-0 .octets .now))
-            (c .in-ShortArea .ensures tt .answer) (c .accept .ensures .area) (c .accept .ensures .state) (c .push-reserved-in-ShortArea .ensures .items) refl);
+          (c .new .result .octets .now) (c .args .area .now) (c .accept .last .area) (stays (c .in-ShortArea .field-0 .octets .now))
+          (c .in-ShortArea .ensures tt .answer) (c .accept .ensures .area) (c .accept .ensures .state) (c .push-reserved-in-ShortArea .ensures .items) refl);
       kept = (c .push-reserved-in-ShortArea .ensures .len, c .push-reserved-in-ShortArea .ensures .capacity);
     }

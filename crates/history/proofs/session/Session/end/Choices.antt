@@ -11,7 +11,7 @@ abbrev pub Inv-loop-slot : given.InvT-loop-slot
 Inv-loop-slot l =
     (l .completed + leftOver (heldSlots (vec-items (l .accepted))) ≡ leftOver (heldSlots (vec-items (l .entry .accepted))))
     × (endArea (view (l .service)) (reverse (heldSlots (vec-items (l .accepted)))) (l .area)
-      ≡ endArea (view (l .entry .service)) (reverse (heldSlots (vec-items (l .entry .accepted)))) (l .entry .area))
+    ≡ endArea (view (l .entry .service)) (reverse (heldSlots (vec-items (l .entry .accepted)))) (l .entry .area))
     × (l .completed + vec-len (l .accepted) ≤ vec-len (l .entry .accepted))
     × (length (l .area) ≡ 4096)
 
