@@ -25,11 +25,9 @@ use Rattle.history.specs.Session.{Machine, heldAt, ended, wholeReply, acceptRe
 use Rattle.history.specs.Meaning.{ifDone, ifAccepted, ifAnswered, ifSet, heldBy, askedOf, subschedulesBy, apidsBy, finishedBy, clockOf, stillAccepted, enabledSubschedule, enabledApid, given, reportsGiven, stateOf}
 use Rattle.history.specs.Promise.{afterAll, Rule, Lawful, History}
 use Rattle.history.specs.Agrees.{noted}
+use Rattle.history.proofs.Laws.{one-more, clock-rises, reports-numbered}
 
 -- sequence counts go round at 16384
-one-more : (g : ℕ) → nextCount (g % 16384) ≡ (g + 1) % 16384
-one-more g = omega arith
-
 count-given : (g : ℕ) (rs : List Content) → countAfter (g % 16384) rs ≡ (g + length rs) % 16384
 count-given g [] = ap (λ n. n % 16384) (let e : g ≡ g + 0 = omega arith in e)
 count-given g (r ∷ rs) =
@@ -155,6 +153,8 @@ module _ (h : Log) where
       record {
         lawful = (record { reply = refl; area = refl }, lawful);
         agrees = λ i. record { state = state-kept c area i; held = held-kept c area i };
+        clock = clock-rises (entry c area ∷ h) (record { reply = refl; area = refl }, lawful);
+        reports = reports-numbered (entry c area ∷ h) (record { reply = refl; area = refl }, lawful);
       }
 
 -- one call on a machine that agrees with a history, by what the call said of itself
@@ -171,4 +171,4 @@ stepped h m end c area reply after steps history =
 
 -- before the first call
 pub start : History [] (afterAll [])
-start = record { lawful = tt; agrees = refl }
+start = record { lawful = tt; agrees = refl; clock = clock-rises [] tt; reports = refl }
