@@ -35,6 +35,16 @@ pub data Asked : Type 0 where
   asksStatus : Named → Asked
   testsConnection : Asked
 
+-- a request names at most 117 numbers, for it has no more octets
+abbrev pub few : Named → Bool
+few n = leb (length (n .subschedules) + length (n .apids)) 117
+
+abbrev pub fewAsked : Asked → Bool
+fewAsked (enables n) = few n
+fewAsked (disables n) = few n
+fewAsked (asksStatus n) = few n
+fewAsked testsConnection = true
+
 -- which reports a request asks for: bit 1 of the ack bits the one on acceptance, bit 8 the one on completion
 abbrev pub ackOf : ℕ → Ack
 ackOf bits = record { acceptance = eqb (bits % 2) 1; completion = eqb (bits / 8 % 2) 1 }

@@ -1,9 +1,11 @@
 ghost use mathlib.Core.Path.{_≡_};
 ghost use Prim.Native.Nat.{ℕ, _+_, _*_, _≤_};
 ghost use lib.ListN.{length, getD, drop};
+ghost use mathlib.Core.Bool.{true};
+ghost use Rattle.std.specs.Results.{Cases};
 ghost use Rattle.packet.specs.Octets.{words};
 ghost use Rattle.request.specs.declared.rejection.Rejection.the-variants.{Packet};
-ghost use Rattle.request.specs.Request.{outOfRange, ackOf, namedOf, decodeOf, requestOf, nameOf, meantNames, meantAsked, meant};
+ghost use Rattle.request.specs.Request.{outOfRange, ackOf, namedOf, decodeOf, requestOf, nameOf, few, fewAsked, namesIn, askedIn, meantNames, meantAsked, meant};
 use crate::rejection::Rejection;
 use crate::request::Ack;
 use crate::request::Names;
@@ -80,7 +82,8 @@ fn tail(octets: &[u8], from: usize) -> &[u8]
 
 fn names<'a>(body: &'a [u8]) -> Result<Names<'a>, Rejection>
     requires { ⌜ length (now body) ≤ 236 ⌝ }
-    ensures { λ r. ⌜ meantNames r ≡ namedOf (now (body .entry)) ⌝ }
+    ensures value { λ r. ⌜ meantNames r ≡ namedOf (now (body .entry)) ⌝ }
+    ensures few { λ r. ⌜ Cases r (λ n. few (namesIn n) ≡ true) (λ _. Unit {0}) ⌝ }
 {
     let wrong_length = Rejection::Field {
         octet: 10,
@@ -114,7 +117,8 @@ fn names<'a>(body: &'a [u8]) -> Result<Names<'a>, Rejection>
 
 fn decode<'a>(kind: Kind, body: &'a [u8]) -> Result<Request<'a>, Rejection>
     requires { ⌜ length (now body) ≤ 236 ⌝ }
-    ensures { λ r. ⌜ meantAsked r ≡ decodeOf kind (now (body .entry)) ⌝ }
+    ensures value { λ r. ⌜ meantAsked r ≡ decodeOf kind (now (body .entry)) ⌝ }
+    ensures few { λ r. ⌜ Cases r (λ q. fewAsked (askedIn q) ≡ true) (λ _. Unit {0}) ⌝ }
 {
     match kind {
         Kind::Enable => Ok(Request::Enable(names(body)?)),
@@ -135,7 +139,8 @@ fn decode<'a>(kind: Kind, body: &'a [u8]) -> Result<Request<'a>, Rejection>
 /// Reads any octets as a request, or says the first thing that is wrong: the
 /// packet, its type, its subtype, the length of its data, a field out of range.
 pub fn read_request<'a>(octets: &'a [u8]) -> Result<Telecommand<'a>, Rejection>
-    ensures { λ r. ⌜ meant r ≡ requestOf (now (octets .entry)) ⌝ }
+    ensures value { λ r. ⌜ meant r ≡ requestOf (now (octets .entry)) ⌝ }
+    ensures few { λ r. ⌜ Cases r (λ t. fewAsked (askedIn (t .request)) ≡ true) (λ _. Unit {0}) ⌝ }
 {
     let packet = packet::read(octets, Role::Request)?;
     let kind = kind_of(packet.service, packet.subtype, packet.body.len() as u16)?;

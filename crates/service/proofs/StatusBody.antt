@@ -14,7 +14,7 @@ use Rattle.report.specs.Report.{over}
 use Rattle.report.proofs.Over.{over-put, take-over}
 use Rattle.status.specs.Status.{flagged, unwords}
 use Rattle.status.proofs.Names.{length-flags}
-use Rattle.service.specs.Reports.{few}
+use Rattle.request.specs.Request.{few}
 
 two-set : (xs : List ℕ) (a b : ℕ) → 2 ≤ length xs → set (set xs 0 a) 1 b ≡ over (a ∷ b ∷ []) xs
 two-set [] a b h = absurd (omega arith)

@@ -3,7 +3,6 @@ use Prim.Native.Nat.{ℕ, _+_}
 use mathlib.Core.Path.{_≡_}
 use mathlib.Core.Bool.{Bool, true, false, cond}
 use mathlib.Core.List.{List, [], _∷_, _++_}
-use lib.Dec.{leb}
 use lib.ListN.{length}
 use Rattle.report.specs.declared.ReportKind.the-variants.{AcceptanceSuccess, AcceptanceFailure, CompletionSuccess, Status, Connection}
 use Rattle.report.specs.Report.{Content, contentOf, twoOctets, over, reportsOf}
@@ -11,7 +10,7 @@ use Rattle.request.specs.declared.rejection.Rejection.{Rejection}
 use Rattle.request.specs.declared.rejection.Failure.{Failure}
 use Rattle.request.specs.declared.request.Ack.{Ack}
 use Rattle.request.specs.Rejection.{failureOf}
-use Rattle.request.specs.Request.{Named, Asked, enables, disables, asksStatus, testsConnection}
+use Rattle.request.specs.Request.{Named, few, Asked, enables, disables, asksStatus, testsConnection}
 use Rattle.status.specs.Status.{flagged, unwords}
 use Rattle.service.specs.State.{State, counted}
 
@@ -36,10 +35,6 @@ statusBody subschedules apids n =
     length (n .subschedules)
     ∷ length (n .apids)
     ∷ (unwords (flagged subschedules (n .subschedules)) ++ unwords (flagged apids (n .apids)))
-
--- a request names at most 117 numbers
-abbrev pub few : Named → Bool
-few n = leb (length (n .subschedules) + length (n .apids)) 117
 
 -- the reports with what a request asked to know, by which subschedules and APIDs are enabled
 abbrev pub dataOf : (ℕ → Bool) → (ℕ → Bool) → Asked → List Content

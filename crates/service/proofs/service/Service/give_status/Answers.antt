@@ -7,9 +7,9 @@ use lib.ListN.{length, take, length-take}
 use Rattle.std.proofs.shelf.Tests.{cond-true, cond-false}
 use Rattle.report.specs.declared.ReportKind.the-variants.{Status}
 use Rattle.report.specs.Report.{Content, contentOf}
-use Rattle.request.specs.Request.{Named, namesIn}
+use Rattle.request.specs.Request.{Named, few, namesIn}
 use Rattle.service.specs.State.{State, view}
-use Rattle.service.specs.Reports.{few, statusBody, Gives}
+use Rattle.service.specs.Reports.{statusBody, Gives}
 use Rattle.service.proofs.StatusBody.{few-names, many-names}
 use Rattle.service.proofs.service.Service.give_status.Needs as need
 

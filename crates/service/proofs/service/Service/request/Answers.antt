@@ -23,7 +23,7 @@ returns-in-Err c =
     let big : 4096 ≤ length (c .args .area .now) = omega arith in
     let r =
     refused (c .args .octets .now) (c .args .area .now) (view (c .args .self .now)) (view (c .give-rejection-written .last .self)) (c .give-rejection-written .last .part) (c .give-rejection-written .result)
-    big (c .in-Err .rejection) (c .in-Err .ensures tt) (c .name-of-name .result) (sym (c .name-of-name .ensures)) (c .failure .result .code) (ap (λ (f : Failure). f .code) (c .failure .ensures)) (c .give-rejection-written .ensures .gives) in
+    big (c .in-Err .rejection) (c .in-Err .ensures tt .value) (c .name-of-name .result) (sym (c .name-of-name .ensures)) (c .failure .result .code) (ap (λ (f : Failure). f .code) (c .failure .ensures)) (c .give-rejection-written .ensures .gives) in
     record { answer = r .0; area = r .1; state = r .2 }
 
 pub returns : need.returns
@@ -45,5 +45,5 @@ returns c =
     (subst (λ (z : State). Gives z (carried z (t .asked)) (finishReports (z .subschedules) (z .apids) h) (take (length a - at) (drop at a)) b end n) (first .state) (c .finish-n .ensures .gives)) in
     let r =
     done (c .args .octets .now) (c .args .area .now) s end (putMid at (length a - at) a b) (at + n)
-    big t (c .in-Ok .ensures tt) name (sym (c .name-of-name .ensures)) both in
+    big t (c .in-Ok .ensures tt .value) name (sym (c .name-of-name .ensures)) both in
     record { answer = r .0; area = r .1; state = r .2 }
