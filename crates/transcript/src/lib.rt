@@ -1,0 +1,3 @@
+//! What the calls of a script were answered, put into lines and words.
+pub mod transcript;
+pub mod words;
