@@ -1,9 +1,11 @@
 ghost use mathlib.Core.Path.{_≡_};
 ghost use mathlib.Core.List.{List, reverse};
 ghost use Prim.Native.Nat.{ℕ, _+_, _<_, _≤_};
-ghost use lib.ListN.{length};
+ghost use mathlib.Core.Bool.{_&&_};
+ghost use lib.Dec.{eqb, leb};
+ghost use lib.ListN.{length, drop};
 ghost use Rattle.std.specs.Of.Vec.{vec-len, vec-cap, vec-items};
-ghost use Rattle.std.specs.Results.{Cases};
+ghost use Rattle.std.specs.Results.{Cases, isOk};
 ghost use Rattle.service.specs.State.{view};
 ghost use Rattle.service.specs.Requests.{tooShort};
 ghost use Rattle.history.specs.Log.{requests, accepts, completes, setsClock, callIn, areaIn, entriesOf};
@@ -17,8 +19,6 @@ use service::service::Service;
 use service::states::Acceptance;
 use service::states::Accepted;
 use service::states::Received;
-use std::alloc::AllocError;
-use std::alloc::Global;
 
 /// A service together with the requests that it has accepted: the one of each
 /// acceptance asked for, where it is still accepted.
@@ -163,18 +163,23 @@ fn make_call<'a>(session: &mut Session<'a>, call: Call<'a>, note: &mut Note)
 }
 
 /// Makes every call on a new service, each over the area of its note, and notes each reply.
-/// Calls without a note are not made. Without memory nothing is run and nothing changes.
+/// Calls without a note are not made. `places` is to be empty and to have room for as many
+/// requests as there are calls; otherwise it comes back, nothing is run and nothing changes.
 pub fn run<'a>(
-    heap: Global,
+    places: Vec<Option<Accepted<'a>>>,
     calls: &[Call<'a>],
     notes: &mut [Note],
-) -> Result<Session<'a>, AllocError>
-    ensures { λ r. ⌜ Cases r (λ s. History (reverse (entriesOf (now (calls .entry)) (now (notes .entry)) (now (notes .exit)))) (machineOf s)) (λ _. now (notes .exit) ≡ now (notes .entry)) ⌝ }
+) -> Result<Session<'a>, Vec<Option<Accepted<'a>>>>
+    ensures test { λ r. ⌜ isOk r ≡ (eqb (vec-len (places .entry)) 0 && leb (length (now (calls .entry))) (vec-cap (places .entry))) ⌝ }
+    ensures history { λ r. ⌜ Cases r (λ s. History (reverse (entriesOf (now (calls .entry)) (now (notes .entry)) (now (notes .exit)))) (machineOf s)) (λ p. (p ≡ places .entry) × (now (notes .exit) ≡ now (notes .entry))) ⌝ }
+    ensures spare { λ _. ⌜ drop (length (now (calls .entry))) (now (notes .exit)) ≡ drop (length (now (calls .entry))) (now (notes .entry)) ⌝ }
 {
-    let accepted = Vec::with_capacity(heap, calls.len())?;
+    if places.len() != 0 || places.capacity() < calls.len() {
+        return Err(places);
+    }
     let mut session = Session {
         service: Service::new(),
-        accepted,
+        accepted: places,
     };
     for i in 0..calls.len() {
         if i < notes.len() {

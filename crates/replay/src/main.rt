@@ -58,8 +58,13 @@ fn replay(rt: &LibcRuntime) -> Result<(), ReplayError> {
     let accepts = script.accepts()?;
     let calls = script.calls(accepts.len())?;
     let mut notes = script.notes(accepts.len())?;
-    let session = run(rt.alloc(), calls.as_slice(), notes.as_mut_slice())?;
-    session.end(&mut [0; 4096]);
+    let places = Vec::with_capacity(rt.alloc(), calls.len())?;
+    match run(places, calls.as_slice(), notes.as_mut_slice()) {
+        Ok(session) => session.end(&mut [0; 4096]),
+        // there is room for a request of each call
+        Err(_places) => unreachable(),
+    }
+    ;
     let transcript = Transcript::new(
         &script,
         accepts.as_slice(),

@@ -1,10 +1,12 @@
 use mathlib.Core.Path.{_≡_, refl, sym, ap, subst, _∙_}
-use mathlib.Core.List.{List, []}
+use mathlib.Core.List.{List, [], _∷_}
 use Prim.Native.Nat.{ℕ, _+_, _<_, _≤_}
 use native.Mathlib.Omega.{arith}
+use lib.Dec.{eqb, leb}
 use lib.ListN.{length, drop, set}
 use Rattle.std.specs.Of.Vec.{vec-len, vec-cap, vec-items}
 use Rattle.std.specs.declared.option.Option.{Option}
+use Rattle.std.proofs.shelf.Tests.{and-from, eq-eqb, le-leb}
 use Rattle.service.specs.declared.states.Accepted.{Accepted}
 use Rattle.service.specs.State.{State, view}
 use Rattle.history.specs.declared.call.Note.{Note}
@@ -15,13 +17,16 @@ use Rattle.history.proofs.Runs.{Told, turn, idle, begun, over, rest-same, rest
 use Rattle.history.proofs.session.run.Needs as need
 use Rattle.history.proofs.session.run.Needs.{then-i-notes, else-i-notes}
 
+nothing : {X : Type 0} (xs : List X) → length xs ≡ 0 → xs ≡ []
+nothing [] h = refl
+nothing (x ∷ xs) h = absurd (omega arith)
+
 pub loop-i-holds : need.loop-i-holds
 loop-i-holds c =
-    let made = c .in-Continue-accepted .ensures tt .made in
-    let none : heldSlots (vec-items (c .in-Continue-accepted .accepted)) ≡ [] = ap heldSlots (made .0) in
-    let start : machineOf (record { service = c .new .result; accepted = c .in-Continue-accepted .accepted }) ≡ afterAll [] =
-    λ i. record { state = c .new .ensures i; held = none i } in
-    (begun (c .args .calls .now) (c .args .notes .now) (c .args .notes .now) _ start, refl, omega (arith, made .1 .0), made .1 .1)
+    let none : vec-items (c .args .places) ≡ [] = nothing (vec-items (c .args .places)) (omega (arith, c .args .places .ok .0)) in
+    let start : machineOf (record { service = c .new .result; accepted = c .args .places }) ≡ afterAll [] =
+    λ i. record { state = c .new .ensures i; held = heldSlots (none i) } in
+    (begun (c .args .calls .now) (c .args .notes .now) (c .args .notes .now) _ start, refl, omega arith, omega arith)
 
 pub loop-i-again : need.loop-i-again
 loop-i-again c =
@@ -57,4 +62,11 @@ loop-i-again c =
     ]
 
 pub returns : need.returns
-returns c = over (c .args .calls .now) (c .args .notes .now) (c .loop-i .notes) (c .loop-i .i) (machineOf (c .loop-i .session)) (omega arith) (c .loop-i .inv .0)
+returns c =
+    let size : c .loop-i .i ≡ length (c .args .calls .now) = omega arith in
+    record {
+      test =
+          sym (and-from (eqb (vec-len (c .args .places)) 0) (leb (length (c .args .calls .now)) (vec-cap (c .args .places))) (eq-eqb (vec-len (c .args .places)) 0 (omega arith)) (le-leb (length (c .args .calls .now)) (vec-cap (c .args .places)) (omega arith)));
+      history = over (c .args .calls .now) (c .args .notes .now) (c .loop-i .notes) (c .loop-i .i) (machineOf (c .loop-i .session)) (omega arith) (c .loop-i .inv .0);
+      spare = subst (λ (k : ℕ). drop k (c .loop-i .notes) ≡ drop k (c .args .notes .now)) size (c .loop-i .inv .1);
+    }
