@@ -66,7 +66,7 @@ fn replay(rt: &LibcRuntime) -> Result<(), ReplayError> {
     }
     ;
     let transcript = Transcript::new(
-        &script,
+        script.steps().len(),
         accepts.as_slice(),
         calls.as_slice(),
         notes.as_slice(),

@@ -15,7 +15,6 @@ use history::call::Call;
 use history::call::Note;
 use history::call::Reply;
 use report::read_report;
-use script::script::Script;
 use service::answer::Answer;
 use service::answer::Outcome;
 use std::fmt;
@@ -31,15 +30,16 @@ pub struct Transcript<'a, 'o> {
 }
 
 impl<'a, 'o> Transcript<'a, 'o> {
-    /// The transcript of a script's calls, with the octets of its acceptances.
+    /// The transcript of calls, of which the first `scripted` stand in a script, with the octets
+    /// of its acceptances.
     pub fn new(
-        script: &Script,
+        scripted: usize,
         accepts: &'a [&'o [u8]],
         calls: &'a [Call<'o>],
         notes: &'a [Note],
     ) -> Transcript<'a, 'o> {
         Transcript {
-            scripted: script.steps().len(),
+            scripted,
             accepts,
             calls,
             notes,
