@@ -14,8 +14,8 @@ use std::io::BufRead;
 use std::io::BufReader;
 use std::io::BufWriter;
 use std::io::Write;
-use transcript::transcript::Transcript;
-use transcript::transcript::TranscriptDisplay;
+use transcript::Transcript;
+use transcript::TranscriptDisplay;
 
 const HELP: &str = "\
 replay: makes the calls of a script on a new mission timeline service, and prints what happened.
