@@ -1,4 +1,7 @@
 //! The bus: eight mailboxes, each for one APID.
+
+#![tactic(auto)]
+
 ghost use Rattle.std.specs.Prelude.{◌≡◌, ℕ, ◌≤◌, []};
 ghost use Rattle.bus.specs.Bus.{apids_in, is_in, listed, carried, space, why, waiting_in};
 ghost use Rattle.bus.specs.Kept.{Ranked, Homed, Short, Carried};

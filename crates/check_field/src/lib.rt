@@ -1,5 +1,8 @@
 //! The check field of a packet: the cyclic code with the polynomial
 //! x^16 + x^12 + x^5 + 1 and all ones at the start, over all octets before it.
+
+#![tactic(auto)]
+
 ghost use Rattle.std.specs.Prelude.{◌≡◌, ◌*◌};
 ghost use Rattle.check_field.specs.CheckField.{octet_step, eight_bits, check_field};
 

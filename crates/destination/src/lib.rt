@@ -1,4 +1,7 @@
 //! What receives released commands: its meaning, its law, and its two calls.
+
+#![tactic(auto)]
+
 ghost use Rattle.std.specs.Prelude.{◌≡◌, Bool, false, List, [], ℕ, ◌<◌, length};
 ghost use Rattle.destination.specs.Destination.{Laws, offered, waiting_after, given, left, laid};
 

@@ -1,3 +1,6 @@
 //! Numbers in text: octets as hexadecimal digits, and decimal numbers.
+
+#![tactic(auto)]
+
 pub mod hex;
 pub mod number;

@@ -1,4 +1,7 @@
 //! What C programs may call: the check field, and the request check alone.
+
+#![tactic(auto)]
+
 ghost use Rattle.std.specs.Prelude.{◌≡◌};
 ghost use Rattle.check_field.specs.CheckField.{check_field};
 ghost use Rattle.request.specs.Request.{request_of};

@@ -1,4 +1,7 @@
 //! Telecommand packets: one reader, for a request and for the command inside an insert.
+
+#![tactic(auto)]
+
 ghost use Rattle.std.specs.Prelude.{◌≡◌, ℕ, ◌+◌, ◌-◌, ◌≤◌, cond, length, take, IfOk, Ok, Err};
 ghost use Rattle.packet.specs.Octets.{word_at};
 ghost use Rattle.packet.specs.Packet.{most_of, admits, fault_code, fault_a, fault_b, length_right, length_fault, received_of, computed_of, read_of, meant};

@@ -1,4 +1,7 @@
 //! The queue, the first kind of destination: packets wait in a ring of the caller's octets.
+
+#![tactic(auto)]
+
 ghost use Rattle.std.specs.Prelude.{◌≡◌, ℕ, ◌+◌, List, [], length, nat_le};
 ghost use Rattle.queue.specs.Keeps.{queue_laws};
 ghost use Rattle.queue.specs.Queue.{waits_in, carried_by, space_in, cause_of};

@@ -1,4 +1,7 @@
 //! Replays a call script from standard input on a new service, and prints what happened.
+
+#![tactic(auto)]
+
 mod error;
 
 use crate::error::ReplayError;

@@ -4,6 +4,8 @@
 //! two with the packet's size, one fixed, service type, subtype, a zero octet, six of the clock,
 //! the body, and the check field over all of them.
 
+#![tactic(auto)]
+
 ghost use Rattle.std.specs.Prelude.{◌≡◌, ℕ, ◌+◌, ◌≤◌, true, List, ◌++◌, length, if◌then◌else◌, Some};
 ghost use Rattle.report.specs.Report.{over, next_count, head_of, report_of, content_of, service_of, subtype_of, fits, written_of, fields_of, clock_in, is_head, is_checked, read_of, meant};
 

@@ -1,4 +1,7 @@
 //! Which subschedules and application processes are enabled: two bit maps.
+
+#![tactic(auto)]
+
 ghost use Rattle.std.specs.Prelude.{◌≡◌, ℕ, ◌*◌, ◌/◌, ◌≤◌, false, length, if◌then◌else◌, nat_eq};
 ghost use Rattle.packet.specs.Octets.{words};
 ghost use Rattle.status.specs.Status.{bit, subschedules_on, apids_on, put, switched, flagged, unwords};

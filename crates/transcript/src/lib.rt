@@ -1,4 +1,7 @@
 //! What is printed of a run of calls.
+
+#![tactic(auto)]
+
 use digits::hex::Hex;
 use history::call::{Call, Note, Reply};
 use report::read_report;

@@ -1,4 +1,7 @@
 //! Words for people: what requests, reports, codes and times mean.
+
+#![tactic(auto)]
+
 use report::Report;
 use request::read::read_request;
 use request::request::{Names, Request};
