@@ -11,6 +11,6 @@ returns c =
           λ w e hw hx.
           let p = c.args.part.now in
           let k : length p ≡ c.args.at + length p - c.args.at = omega arith in
-          ap (put_mid c.args.at (c.args.at + length p - c.args.at) c.args.out.now) c.copy-from-slice.ensures.after
+          ap (put_mid c.args.at (c.args.at + length p - c.args.at) c.args.out.now) c.copy_from_slice.ensures.after
           ∙ over_put w e c.args.out.now p c.args.at (c.args.at + length p - c.args.at) hw hx k;
     }

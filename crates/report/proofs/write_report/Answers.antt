@@ -11,11 +11,11 @@ returns c =
     let b : List ℕ = c.args.body.now in
     let content : Content = content_of c.args.kind b in
     let report : List ℕ = report_of c.args.stamp.sequence_count c.args.stamp.clock content in
-    let f : fits (length e) (length b) ≡ true = and_from (leb (length b) 65524) (leb (18 + length b) (length e)) (le-leb _ _ c.if-body-gt-MAX-BODY.false) (le-leb _ _ c.if-part-body.false) in
+    let f : fits (length e) (length b) ≡ true = and_from (leb (length b) 65524) (leb (18 + length b) (length e)) (le-leb _ _ c.if-body-gt-MAX_BODY.false) (le-leb _ _ c.if-part-body.false) in
     record {
-      answer = ap Some c.lay-report.ensures.end ∙ sym (cond-true (fits (length e) (length b)) (Some (18 + length b)) None f);
-      part = c.lay-report.ensures.part ∙ sym (cond-true (fits (length e) (length b)) (over report e) e f);
+      answer = ap Some c.lay_report.ensures.end ∙ sym (cond-true (fits (length e) (length b)) (Some (18 + length b)) None f);
+      part = c.lay_report.ensures.part ∙ sym (cond-true (fits (length e) (length b)) (over report e) e f);
       read_back =
-          λ _. ap read_of c.lay-report.ensures.part
-          ∙ reads_back c.args.stamp.sequence_count c.args.stamp.clock content (drop (length report) e) c.if-body-gt-MAX-BODY.false;
+          λ _. ap read_of c.lay_report.ensures.part
+          ∙ reads_back c.args.stamp.sequence_count c.args.stamp.clock content (drop (length report) e) c.if-body-gt-MAX_BODY.false;
     }

@@ -10,5 +10,5 @@ loop-rest-preserved c =
     let e = octets_first rest h in
     let o = c.in-Some.ensures in
     let m = after_more (vec_items c.loop-rest.found) c.in-Some.octet (octets_of (take (length rest - 2) (drop 2 rest))) in
-    let p = c.in-ok-push.ensures.items in
+    let p = c.in_ok-push.ensures.items in
     cc
