@@ -6,7 +6,7 @@ use Rattle.status.specs.Status.{bit, flagged, unwords}
 use Rattle.status.proofs.Maps.{bit_below}
 use Rattle.packet.proofs.Octets.{words_first, words_none, two_fewer}
 use Rattle.status.proofs.flag_all.Goals as goal
-use Rattle.status.proofs.flag_all.Goals.{then-is-set, else-is-set}
+use Rattle.status.proofs.flag_all.Goals.{then-is_set, else-is_set}
 
 -- what stands for a number of the list
 abbrev raised : (ℕ → Bool) → ℕ → ℕ
@@ -40,16 +40,16 @@ octets m a b a' b' flag t short p q ea eb et ef =
     let is : t ≡ bit m n = et ∙ ap (bit m) (ap (λ z. z * 256 + b') ea ∙ ap (λ z. a * 256 + z) eb) in
     high (bit m n) a b flag p q (λ e. let l : n < 8 * length m = bit_below m n e in omega arith) (ef ∙ ap (λ z. cond z 128 0) is)
 
-pub overflow-add-out : goal.overflow-add-out
-overflow-add-out c =
+pub overflow_add-out : goal.overflow_add-out
+overflow_add-out c =
     let xs = c.loop-rest.rest.now in
     let p : get_or xs 0 0 < 256 = search rules in
     let q : get_or xs 1 0 < 256 = search rules in
-    let flag : c.if-is-set.flag ≡ cond c.is-set.result 128 0 = elim c.if-is-set.branch [
-      | then-is-set w ↦ w.flag-is ∙ sym (ap (λ z. cond z 128 0) w.if-is-set.true)
-      | else-is-set w ↦ w.flag-is ∙ sym (ap (λ z. cond z 128 0) w.if-is-set.false)
+    let flag : c.if-is_set.flag ≡ cond c.is_set.result 128 0 = elim c.if-is_set.branch [
+      | then-is_set w ↦ w.flag-is ∙ sym (ap (λ z. cond z 128 0) w.if-is_set.true)
+      | else-is_set w ↦ w.flag-is ∙ sym (ap (λ z. cond z 128 0) w.if-is_set.false)
     ] in
-    let all = octets c.args.map.now (get_or xs 0 0) (get_or xs 1 0) c.from.result c.from-in-len2-up.result c.if-is-set.flag c.is-set.result c.requires p q c.from.ensures c.from-in-len2-up.ensures c.is-set.ensures flag in
+    let all = octets c.args.map.now (get_or xs 0 0) (get_or xs 1 0) c.from.result c.from-in-len2-up.result c.if-is_set.flag c.is_set.result c.requires p q c.from.ensures c.from-in-len2-up.ensures c.is_set.ensures flag in
     search (rules, all.2)
 
 pub loop-rest-preserved : goal.loop-rest-preserved
@@ -60,14 +60,14 @@ loop-rest-preserved c =
     let two : 2 ≤ length xs = omega (arith, ltb-false) in
     let p : get_or xs 0 0 < 256 = search rules in
     let q : get_or xs 1 0 < 256 = search rules in
-    let flag : c.if-is-set.flag ≡ cond c.is-set.result 128 0 = elim c.if-is-set.branch [
-      | then-is-set w ↦ w.flag-is ∙ sym (ap (λ z. cond z 128 0) w.if-is-set.true)
-      | else-is-set w ↦ w.flag-is ∙ sym (ap (λ z. cond z 128 0) w.if-is-set.false)
+    let flag : c.if-is_set.flag ≡ cond c.is_set.result 128 0 = elim c.if-is_set.branch [
+      | then-is_set w ↦ w.flag-is ∙ sym (ap (λ z. cond z 128 0) w.if-is_set.true)
+      | else-is_set w ↦ w.flag-is ∙ sym (ap (λ z. cond z 128 0) w.if-is_set.false)
     ] in
-    let all = octets m (get_or xs 0 0) (get_or xs 1 0) c.from.result c.from-in-len2-up.result c.if-is-set.flag c.is-set.result c.requires p q c.from.ensures c.from-in-len2-up.ensures c.is-set.ensures flag in
+    let all = octets m (get_or xs 0 0) (get_or xs 1 0) c.from.result c.from-in-len2-up.result c.if-is_set.flag c.is_set.result c.requires p q c.from.ensures c.from-in-len2-up.ensures c.is_set.ensures flag in
     let whole : c.loop-rest.at + length xs / 2 * 2 ≡ length out = c.loop-rest.invariant.1 in
     let rest : length (take (length xs - 2) (drop 2 xs)) + 2 ≡ length xs = two_fewer xs two in
-    (step (bit m) out xs c.loop-rest.at (get_or xs 0 0 * 256 + get_or xs 1 0) (get_or xs 0 0 + c.if-is-set.flag) (get_or xs 1 0) two refl (omega arith) all.0 all.1 ∙ c.loop-rest.invariant.0, simp length-set (omega arith))
+    (step (bit m) out xs c.loop-rest.at (get_or xs 0 0 * 256 + get_or xs 1 0) (get_or xs 0 0 + c.if-is_set.flag) (get_or xs 1 0) two refl (omega arith) all.0 all.1 ∙ c.loop-rest.invariant.0, simp length-set (omega arith))
 
 pub returns : goal.returns
 returns c =

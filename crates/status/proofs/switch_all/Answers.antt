@@ -17,7 +17,7 @@ loop-rest-preserved c =
     let xs = c.loop-rest.rest.now in
     let two : 2 ≤ length xs = omega (arith, ltb-false) in
     let is : c.from.result * 256 + c.from-in-len2-up.result ≡ get_or xs 0 0 * 256 + get_or xs 1 0 = cc in
-    step c.loop-rest.map c.put-bit.new.map xs _ c.args.on two is c.put-bit.auto.map c.put-bit.ensures ∙ c.loop-rest.invariant
+    step c.loop-rest.map c.put_bit.new.map xs _ c.args.on two is c.put_bit.auto.map c.put_bit.ensures ∙ c.loop-rest.invariant
 
 pub returns : goal.returns
 returns c limit is =

@@ -10,5 +10,5 @@ returns c =
       waiting = c.offer.ensures.waiting;
       fixed = λ p. ap (λ (list : List ℕ). carried list p) c.offer.ensures.fixed;
       never = λ e. same_bus _ _ (c.offer.ensures.never e);
-      not-now = λ e. same_bus _ _ (c.offer.ensures.not-now e);
+      not_now = λ e. same_bus _ _ (c.offer.ensures.not_now e);
     }

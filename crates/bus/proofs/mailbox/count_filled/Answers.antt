@@ -9,11 +9,11 @@ loop-mailbox-preserved c =
     let ms = c.args.boxes.now in
     let i = c.loop-mailbox.mailbox-index in
     let lt : i < length ms = omega arith in
-    elim c.if-is-full.branch [
-      | goal.then-is-full w ↦
-          (let m = count_by_more_yes is_full ms i no_box lt (sym c.is-full.ensures ∙ w.if-is-full.true) in (omega (arith, w.n-is), omega (arith, w.n-is)))
-      | goal.else-is-full w ↦
-          (let m = count_by_more_no is_full ms i no_box lt (sym c.is-full.ensures ∙ w.if-is-full.false) in (omega (arith, w.n-is), omega (arith, w.n-is)))
+    elim c.if-is_full.branch [
+      | goal.then-is_full w ↦
+          (let m = count_by_more_yes is_full ms i no_box lt (sym c.is_full.ensures ∙ w.if-is_full.true) in (omega (arith, w.n-is), omega (arith, w.n-is)))
+      | goal.else-is_full w ↦
+          (let m = count_by_more_no is_full ms i no_box lt (sym c.is_full.ensures ∙ w.if-is_full.false) in (omega (arith, w.n-is), omega (arith, w.n-is)))
     ]
 
 pub returns : goal.returns

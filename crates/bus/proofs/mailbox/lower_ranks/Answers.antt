@@ -12,7 +12,7 @@ loop-mailbox-preserved c =
     let i = c.loop-mailbox.mailbox-index in
     let lt : i < length xs = omega arith in
     let x = get_or ys i no_box in
-    let n : c.saturating-sub-mailbox.result ≡ x.rank - 1 = c.saturating-sub-mailbox.ensures in
+    let n : c.saturating_sub-mailbox.result ≡ x.rank - 1 = c.saturating_sub-mailbox.ensures in
     let d = get_or_default ys i no_box x (omega arith) in
     ap (λ (k : ℕ). set ys i (record { apid = x.apid; rank = k; len = x.len; octets = x.octets })) n ∙ map_over_more lowered xs ys i x lt c.loop-mailbox.invariant d
 

@@ -3,15 +3,15 @@ use Rattle.std.proofs.lemmas.Bool.Decides.{nat_tests}
 use Rattle.digits.proofs.Digits.{digits_first, decimal_first, decimal_none, decimal_grows}
 use Rattle.digits.proofs.number.value.Goals as goal
 
-pub returns-in-default-with-digit : goal.returns-in-default-with-digit
-returns-in-default-with-digit c = λ small.
+pub returns-in_default-with_digit : goal.returns-in_default-with_digit
+returns-in_default-with_digit c = λ small.
     let rest = c.loop-rest.rest.now in
     let n = c.loop-rest.number in
     let h : 1 ≤ length rest = omega (arith, ltb-false) in
     let e = decimal_first n rest h in
     let g = decimal_grows (n * 10 + (get_or rest 0 0 - 48)) (take (length rest - 1) (drop 1 rest)) in
     let i = c.loop-rest.invariant.1 in
-    c.in-default-with-digit.ensures (omega arith)
+    c.in_default-with_digit.ensures (omega arith)
 
 pub loop-rest-preserved : goal.loop-rest-preserved
 loop-rest-preserved c =

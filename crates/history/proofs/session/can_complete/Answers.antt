@@ -15,12 +15,12 @@ returns-then-number-eq0 c =
     elim c.then-number-eq0.branch [ then-number-eq0-via-then-number-eq0 w ↦ inl w.if-number-eq0.true | then-number-eq0-via-else-number-eq0+then-number-slots w ↦ inr w.if-number-slots.true ] in
     record { value = can_not_find (held_at n (held_slots xs)) (too_short c.args.area.now) (no_place xs n out); within = tt }
 
-pub returns-in-default : goal.returns-in-default
-returns-in-default c =
+pub returns-in_default : goal.returns-in_default
+returns-in_default c =
     let xs : List (Option Accepted) = c.args.slots.now in
     let n : ℕ = c.args.number in
     record {
-      value = can_not_find (held_at n (held_slots xs)) (too_short c.args.area.now) (at_place xs n None (omega arith) (omega arith) ∙ ap held_slot c.in-default.is);
+      value = can_not_find (held_at n (held_slots xs)) (too_short c.args.area.now) (at_place xs n None (omega arith) (omega arith) ∙ ap held_slot c.in_default.is);
       within = tt;
     }
 

@@ -29,18 +29,18 @@ loop-i-preserved c =
     let inv = c.loop-i.invariant in
     elim c.if-i-notes.branch [
       | then-i-notes w ↦
-          (let m : Note = w.make-call.new.note in
+          (let m : Note = w.make_call.new.note in
           let hc : i < length c.args.calls.now = omega arith in
           let hm : i < length ms = omega (arith, w.if-i-notes.true) in
           let size : length ms ≡ length ns = c.loop-i.auto.notes in
-          let told : Told c.args.calls.now ns (set ms i m) (i + 1) (machine_of w.make-call.new.session) =
-          turn c.args.calls.now ns ms i _ w.index-notes-i.result m (machine_of c.loop-i.session) (machine_of w.make-call.new.session)
-          hc hm size inv.1 w.make-call.ensures.steps inv.0 in (
+          let told : Told c.args.calls.now ns (set ms i m) (i + 1) (machine_of w.make_call.new.session) =
+          turn c.args.calls.now ns ms i _ w.index-notes-i.result m (machine_of c.loop-i.session) (machine_of w.make_call.new.session)
+          hc hm size inv.1 w.make_call.ensures.steps inv.0 in (
             subst (λ (s : Session). Told c.args.calls.now ns c.if-i-notes.notes (i + 1) (machine_of s)) (sym w.session-is)
-                (subst (λ (l : List Note). Told c.args.calls.now ns l (i + 1) (machine_of w.make-call.new.session)) (sym w.notes-is) told),
+                (subst (λ (l : List Note). Told c.args.calls.now ns l (i + 1) (machine_of w.make_call.new.session)) (sym w.notes-is) told),
             ap (drop (i + 1)) w.notes-is ∙ rest_set ns ms i m inv.1,
-            (let e = ap (λ (s : Session). vec_len s.accepted) w.session-is in omega (arith, w.make-call.ensures.kept.0, inv.2)),
-            (let e = ap (λ (s : Session). vec_capacity s.accepted) w.session-is in omega (arith, w.make-call.ensures.kept.1, inv.3)),
+            (let e = ap (λ (s : Session). vec_len s.accepted) w.session-is in omega (arith, w.make_call.ensures.kept.0, inv.2)),
+            (let e = ap (λ (s : Session). vec_capacity s.accepted) w.session-is in omega (arith, w.make_call.ensures.kept.1, inv.3)),
           ))
       | else-i-notes w ↦
           (let size : length ms ≡ length ns = c.loop-i.auto.notes in

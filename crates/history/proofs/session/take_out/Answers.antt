@@ -6,14 +6,14 @@ use Rattle.history.proofs.session.take_out.Goals as goal
 pub returns : goal.returns
 returns c =
     let xs : List (Option Accepted) = vec_items c.args.slots.now in
-    let ys : List (Option Accepted) = vec_items c.push-reserved.new.self in
-    let zs : List (Option Accepted) = vec_items c.swap-remove.new.self in
+    let ys : List (Option Accepted) = vec_items c.push_reserved.new.self in
+    let zs : List (Option Accepted) = vec_items c.swap_remove.new.self in
     let n : ℕ = c.args.number in
-    let r : Option Accepted = c.swap-remove.result in
+    let r : Option Accepted = c.swap_remove.result in
     let low : 1 ≤ n = omega arith in
     let high : n ≤ length xs = omega (arith, c.args.slots.now.ok.0) in
     record {
-      value = taken xs ys zs n r low high c.push-reserved.ensures.items c.swap-remove.ensures.value;
-      left = emptied xs ys zs n r low high c.push-reserved.ensures.items c.swap-remove.ensures.items;
-      kept = (omega (arith, c.swap-remove.ensures.len, c.push-reserved.ensures.len), c.swap-remove.ensures.capacity ∙ c.push-reserved.ensures.capacity);
+      value = taken xs ys zs n r low high c.push_reserved.ensures.items c.swap_remove.ensures.value;
+      left = emptied xs ys zs n r low high c.push_reserved.ensures.items c.swap_remove.ensures.items;
+      kept = (omega (arith, c.swap_remove.ensures.len, c.push_reserved.ensures.len), c.swap_remove.ensures.capacity ∙ c.push_reserved.ensures.capacity);
     }

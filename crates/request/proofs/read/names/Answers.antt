@@ -6,12 +6,12 @@ use Rattle.request.proofs.read.names.Goals as goal
 
 pub returns : goal.returns
 returns c =
-    let xs : List ℕ = c.split-at.result.0.now in
-    let ys : List ℕ = c.split-at.result.1.now in
+    let xs : List ℕ = c.split_at.result.0.now in
+    let ys : List ℕ = c.split_at.result.1.now in
     let rest : List ℕ = c.tail.result.now in
     let n : ℕ = get_or c.args.body.now 0 0 * 2 in
-    let l₁ = ap length c.split-at.ensures.front in
-    let l₂ = ap length c.split-at.ensures.back in
+    let l₁ = ap length c.split_at.ensures.front in
+    let l₂ = ap length c.split_at.ensures.back in
     let l₃ = ap length c.tail.ensures in
     let sum : length xs + length ys ≤ 234 = omega (arith, length-take n rest, length-drop n rest, length-drop 2 c.args.body.now) in
     record {

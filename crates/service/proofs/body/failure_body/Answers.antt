@@ -14,10 +14,10 @@ pub returns : goal.returns
 returns c =
     let n : List ℕ = c.args.name in
     let l : length n ≡ 4 = search rules in
-    let e₁ = c.to-be-bytes.ensures in
-    let e₂ = c.to-be-bytes-2.ensures in
-    let e₃ = c.to-be-bytes-3.ensures in
-    ap (λ (p : List ℕ). get_or n 0 0 ∷ get_or n 1 0 ∷ get_or n 2 0 ∷ get_or n 3 0 ∷ get_or p 0 0 ∷ get_or p 1 0 ∷ get_or c.to-be-bytes-2.result 0 0 ∷ get_or c.to-be-bytes-2.result 1 0 ∷ get_or c.to-be-bytes-3.result 0 0 ∷ get_or c.to-be-bytes-3.result 1 0 ∷ []) e₁
-    ∙ ap (λ (p : List ℕ). get_or n 0 0 ∷ get_or n 1 0 ∷ get_or n 2 0 ∷ get_or n 3 0 ∷ (two_octets c.args.failure.code ++ (get_or p 0 0 ∷ get_or p 1 0 ∷ get_or c.to-be-bytes-3.result 0 0 ∷ get_or c.to-be-bytes-3.result 1 0 ∷ []))) e₂
+    let e₁ = c.to_be_bytes.ensures in
+    let e₂ = c.to_be_bytes-2.ensures in
+    let e₃ = c.to_be_bytes-3.ensures in
+    ap (λ (p : List ℕ). get_or n 0 0 ∷ get_or n 1 0 ∷ get_or n 2 0 ∷ get_or n 3 0 ∷ get_or p 0 0 ∷ get_or p 1 0 ∷ get_or c.to_be_bytes-2.result 0 0 ∷ get_or c.to_be_bytes-2.result 1 0 ∷ get_or c.to_be_bytes-3.result 0 0 ∷ get_or c.to_be_bytes-3.result 1 0 ∷ []) e₁
+    ∙ ap (λ (p : List ℕ). get_or n 0 0 ∷ get_or n 1 0 ∷ get_or n 2 0 ∷ get_or n 3 0 ∷ (two_octets c.args.failure.code ++ (get_or p 0 0 ∷ get_or p 1 0 ∷ get_or c.to_be_bytes-3.result 0 0 ∷ get_or c.to_be_bytes-3.result 1 0 ∷ []))) e₂
     ∙ ap (λ (p : List ℕ). get_or n 0 0 ∷ get_or n 1 0 ∷ get_or n 2 0 ∷ get_or n 3 0 ∷ (two_octets c.args.failure.code ++ (two_octets c.args.failure.a ++ (get_or p 0 0 ∷ get_or p 1 0 ∷ [])))) e₃
     ∙ ap (λ (p : List ℕ). p ++ (two_octets c.args.failure.code ++ (two_octets c.args.failure.a ++ two_octets c.args.failure.b))) (four n l)

@@ -12,4 +12,4 @@ returns-then-place-self c =
 pub returns : goal.returns
 returns c =
     let ms : List Mailbox = c.args.self.now.boxes.now in
-    c.rank-of.ensures ∙ sym (get_or-map rank_of ms c.args.place _ None (omega arith))
+    c.rank_of.ensures ∙ sym (get_or-map rank_of ms c.args.place _ None (omega arith))

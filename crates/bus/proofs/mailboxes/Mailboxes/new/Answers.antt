@@ -13,10 +13,10 @@ loop-apid-preserved c =
     let n = c.loop-apid.used in
     let lt : i < length xs = omega arith in
     let inv = c.loop-apid.invariant in
-    let is = c.is-wanted.ensures in
-    elim c.if-is-wanted.branch [
-      | goal.then-is-wanted w ↦ given_same _ _ _ _ _ w.boxes-is w.used-is (given_yes xs i ms n lt inv c.is-wanted.result is w.if-is-wanted.true _ w.new.ensures)
-      | goal.else-is-wanted w ↦ given_same _ _ _ _ _ w.boxes-is w.used-is (given_no xs i ms n lt inv c.is-wanted.result is w.if-is-wanted.false)
+    let is = c.is_wanted.ensures in
+    elim c.if-is_wanted.branch [
+      | goal.then-is_wanted w ↦ given_same _ _ _ _ _ w.boxes-is w.used-is (given_yes xs i ms n lt inv c.is_wanted.result is w.if-is_wanted.true _ w.new.ensures)
+      | goal.else-is_wanted w ↦ given_same _ _ _ _ _ w.boxes-is w.used-is (given_no xs i ms n lt inv c.is_wanted.result is w.if-is_wanted.false)
     ]
 
 pub returns : goal.returns

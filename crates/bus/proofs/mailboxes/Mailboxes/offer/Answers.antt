@@ -11,13 +11,13 @@ returns c =
     let i = c.in-Some.place in
     let m = c.put.new.self in
     let home = c.in-Some.ensures.home in
-    let a = c.apid-of.ensures in
+    let a = c.apid_of.ensures in
     let at : home_in ms (apid_of p) ≡ Some i = ap (home_in ms) (sym a) ∙ sym home in
-    let n = c.count-filled-rank.ensures.count in
+    let n = c.count_filled-rank.ensures.count in
     let put : m ≡ holding (get_or ms i no_box) (filled ms + 1) p = c.put.ensures ∙ ap (λ (k : ℕ). holding (get_or ms i no_box) (k + 1) p) n in
     let least = c.if-packet-lt12.false in
     let most = c.if-packet-gt228.false in
-    let empty : is_full (get_or ms i no_box) ≡ false = sym c.is-full.ensures ∙ c.if-is-full.false in
+    let empty : is_full (get_or ms i no_box) ≡ false = sym c.is_full.ensures ∙ c.if-is_full.false in
     let y = is_carried ms i m p c.requires least most at empty put in
     let z = has_space ms i m p c.requires least most at empty put in
     record {
@@ -25,6 +25,6 @@ returns c =
       waiting = new_waits ms i m p c.requires least most at empty put;
       fixed = new_apids ms i m p c.requires least most at empty put;
       never = λ f. absurd (clash _ y f);
-      not-now = λ f. absurd (clash _ z f);
+      not_now = λ f. absurd (clash _ z f);
       sound = new_sound ms i m p c.requires least most at empty put;
     }

@@ -29,7 +29,7 @@ loop-slot-preserved c =
     let xs : List (Option Accepted) = vec_items c.loop-slot.accepted in
     let ys : List (Option Accepted) = vec_items c.pop.new.self in
     let s : State = view c.loop-slot.service in
-    let popped : xs ≡ ys ++ None ∷ [] = c.in-Some.ensures.items ∙ ap (λ (o : Option Accepted). ys ++ o ∷ []) c.in-default-slot.is in (
+    let popped : xs ≡ ys ++ None ∷ [] = c.in-Some.ensures.items ∙ ap (λ (o : Option Accepted). ys ++ o ∷ []) c.in_default-slot.is in (
       omega (arith, left_popped xs ys None popped, c.loop-slot.invariant.0),
       ap (λ (l : List (Option Held)). end_area s l c.loop-slot.area) (latest_popped xs ys None popped) ∙ c.loop-slot.invariant.1,
       omega (arith, c.in-Some.ensures.len, c.loop-slot.invariant.2),
