@@ -6,10 +6,10 @@ use Rattle.bus.specs.Kept.{Sound}
 use Rattle.bus.proofs.Fresh.{fresh_waits, fresh_sound, in_fresh}
 use Rattle.bus.proofs.Bus.new.Goals as goal
 
-pub invariant-of-result : goal.invariant-of-result
-invariant-of-result c =
+pub invariant_of-result : goal.invariant_of-result
+invariant_of-result c =
     let s = subst Sound (sym c.new-inner.ensures) (fresh_sound (padded (listed c.args.apids.now))) in
-    (s.ranks, (s.homes, (s.short, (s.carries, tt))))
+    record { ranks = s.ranks; homes = s.homes; short = s.short; carries = s.carries }
 
 pub returns : goal.returns
 returns c =

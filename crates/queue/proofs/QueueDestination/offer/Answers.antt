@@ -5,8 +5,8 @@ use Rattle.queue.proofs.Step.{sound, step, space_is, answer_is, no_never, no_spa
 use Rattle.queue.proofs.Same.{same_queue}
 use Rattle.queue.proofs.QueueDestination.offer.Goals as goal
 
-pub invariant-of-self : goal.invariant-of-self
-invariant-of-self c =
+pub invariant_of-self : goal.invariant_of-self
+invariant_of-self c =
     let q = c.args.self.now in
     let p = c.args.packet.now in
     let z = step q.inner c.push.new.self p (cause_of q p) c.push.result _ _ refl refl (sound q)

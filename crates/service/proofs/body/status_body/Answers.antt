@@ -27,9 +27,11 @@ returns c =
     let p₂ : length (mid_of (2 + n₁ * 2) ((2 + n₁ * 2) + n₂ * 2 - (2 + n₁ * 2)) x₁) ≡ n₂ * 2 = mid_len (2 + n₁ * 2) ((2 + n₁ * 2) + n₂ * 2) x₁ (omega arith) ∙ omega arith in
     let l₂ : length f₂ ≡ n₂ * 2 = c.flag_apids.auto.out ∙ p₂ in
     let e₁ : f₁ ≡ u₁ = flags (subschedules_on c.args.status.now) xs _ f₁ (n₁ * 2) refl p₁ c.flag_subschedules.ensures in
-    let e₂ : f₂ ≡ u₂ = flags (apids_on c.args.status.now) ys _ f₂ (n₂ * 2) refl p₂ c.flag_apids.ensures in (
-      laid out n₁ n₂ f₁ f₂ (2 + n₁ * 2) ((2 + n₁ * 2) + n₂ * 2) (omega arith) (omega arith) (omega arith)
+    let e₂ : f₂ ≡ u₂ = flags (apids_on c.args.status.now) ys _ f₂ (n₂ * 2) refl p₂ c.flag_apids.ensures in
+    record {
+      out_after =
+          laid out n₁ n₂ f₁ f₂ (2 + n₁ * 2) ((2 + n₁ * 2) + n₂ * 2) (omega arith) (omega arith) (omega arith)
           ∙ ap (λ (l : List ℕ). n₁ ∷ n₂ ∷ (l ++ f₂)) e₁ ∙ ap (λ (l : List ℕ). n₁ ∷ n₂ ∷ (u₁ ++ l)) e₂
-          ∙ ap (λ (k : ℕ). k ∷ n₂ ∷ (u₁ ++ u₂)) (sym (length-words xs)) ∙ ap (λ (k : ℕ). length (words xs) ∷ k ∷ (u₁ ++ u₂)) (sym (length-words ys)),
-      omega arith,
-    )
+          ∙ ap (λ (k : ℕ). k ∷ n₂ ∷ (u₁ ++ u₂)) (sym (length-words xs)) ∙ ap (λ (k : ℕ). length (words xs) ∷ k ∷ (u₁ ++ u₂)) (sym (length-words ys));
+      upper_bound = omega arith;
+    }

@@ -2,9 +2,9 @@ use Rattle.std.proofs.Common.{ℕ, ◌+◌, leb, length, refl, ap, zero-add, ari
 use Rattle.queue.specs.Ring.{waits}
 use Rattle.queue.proofs.store.Queue.new.Goals as goal
 
-pub invariant-of-result : goal.invariant-of-result
+pub invariant_of-result : goal.invariant_of-result
 unfolding waits
-invariant-of-result c = (omega arith, (omega arith, (refl, (refl, tt))))
+invariant_of-result c = (omega arith, (omega arith, (refl, (refl, tt))))
 
 pub returns : goal.returns
 unfolding waits

@@ -14,9 +14,9 @@ returns c =
     let n : Named = names_in c.args.names in
     let body : List ℕ = status_body s.subschedules s.apids n in
     let yes : few n ≡ true = few_names c.args.names.subschedules.now c.args.names.apids.now (omega arith) in
-    let whole : take (c.status_body-n.result - 0) c.status_body-n.new.out ≡ body = ap (λ (k : ℕ). take k c.status_body-n.new.out) (omega arith) ∙ c.status_body-n.ensures.0 in
+    let whole : take (c.status_body-n.result - 0) c.status_body-n.new.out ≡ body = ap (λ (k : ℕ). take k c.status_body-n.new.out) (omega arith) ∙ c.status_body-n.ensures.out_after in
     record {
-      short = omega (arith, c.give.ensures.short, length-take (c.status_body-n.result - 0) c.status_body-n.new.out, c.status_body-n.ensures.1);
+      short = omega (arith, c.give.ensures.short, length-take (c.status_body-n.result - 0) c.status_body-n.new.out, c.status_body-n.ensures.upper_bound);
       gives =
           subst (λ (rs : List Content). Gives s s rs c.args.part.now c.give.new.part (view c.give.new.self) c.give.result)
           (ap (λ (b : List ℕ). content_of Status b ∷ []) whole ∙ sym (cond-true (few n) (content_of Status body ∷ []) [] yes)) c.give.ensures.gives;

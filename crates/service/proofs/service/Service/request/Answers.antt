@@ -9,8 +9,8 @@ use Rattle.service.proofs.Lists.{and_then}
 use Rattle.service.proofs.Cases.{done, refused, short}
 use Rattle.service.proofs.service.Service.request.Goals as goal
 
-pub returns-then-area-lt-LEAST-AREA : goal.returns-then-area-lt-LEAST-AREA
-returns-then-area-lt-LEAST-AREA c =
+pub returns-then-area-lt-LEAST_AREA : goal.returns-then-area-lt-LEAST_AREA
+returns-then-area-lt-LEAST_AREA c =
     let r = short c.args.octets.now c.args.area.now (view c.args.self.now) (omega arith) in
     record { answer = r.0; area = r.1; state = r.2 }
 
