@@ -29,27 +29,27 @@ abbrev after : State → List Content → (ℕ → Bool) → (ℕ → Bool) → 
 after s rs f g = record { clock = s.clock; count = count_after s.count rs; subschedules = f; apids = g }
 
 module _ (s : State) (p : List ℕ) where
-  whole_state : (b : Bool) (r : Result Told Rejection) →
+  whole_state_kept : (b : Bool) (r : Result Told Rejection) →
       counted (whole_state s (cond b lacks_room (judged p r))) (whole_reports s.subschedules s.apids p (cond b lacks_room (judged p r)))
       ≡ after s (if_answered (whole_reply (whole_answer s p (cond b lacks_room (judged p r)))) (whole_reports s.subschedules s.apids p (judged p r)) [])
       (subschedules_by (if_done (whole_reply (whole_answer s p (cond b lacks_room (judged p r)))) (asked_of (held_by p r)) None) s.subschedules)
       (apids_by (if_done (whole_reply (whole_answer s p (cond b lacks_room (judged p r)))) (asked_of (held_by p r)) None) s.apids)
-  whole_state true r = refl
-  whole_state false (Ok t) = refl
-  whole_state false (Err e) = refl
+  whole_state_kept true r = refl
+  whole_state_kept false (Ok t) = refl
+  whole_state_kept false (Err e) = refl
 
-  accept_state : (b : Bool) (r : Result Told Rejection) →
+  accept_state_kept : (b : Bool) (r : Result Told Rejection) →
       counted s (accept_reports p (cond b lacks_room (judged p r)))
       ≡ after s (if_answered (accept_reply (accept_answer s p (cond b lacks_room (judged p r)))) (accept_reports p (judged p r)) []) s.subschedules s.apids
-  accept_state true r = refl
-  accept_state false (Ok t) = refl
-  accept_state false (Err e) = refl
+  accept_state_kept true r = refl
+  accept_state_kept false (Ok t) = refl
+  accept_state_kept false (Err e) = refl
 
-  accept_held : (b : Bool) (r : Result Told Rejection) →
+  accept_held_kept : (b : Bool) (r : Result Told Rejection) →
       accept_held (accept_answer s p (cond b lacks_room (judged p r))) ≡ if_accepted (accept_reply (accept_answer s p (cond b lacks_room (judged p r)))) (held_by p r) None
-  accept_held true r = refl
-  accept_held false (Ok t) = refl
-  accept_held false (Err e) = refl
+  accept_held_kept true r = refl
+  accept_held_kept false (Ok t) = refl
+  accept_held_kept false (Err e) = refl
 
   -- a completion, by whether the area is too short and what is held
   abbrev reply_with : Bool → Option Held → Reply
@@ -64,17 +64,17 @@ module _ (s : State) (p : List ℕ) where
   held_with b None k xs = xs
   held_with b (Some h) k xs = cond b xs (ended k xs)
 
-  complete_state : (b : Bool) (o : Option Held) →
+  complete_state_kept : (b : Bool) (o : Option Held) →
       complete_with b o
       ≡ after s (if_answered (reply_with b o) (finished_by s.subschedules s.apids o) []) (subschedules_by (if_done (reply_with b o) (asked_of o) None) s.subschedules) (apids_by (if_done (reply_with b o) (asked_of o) None) s.apids)
-  complete_state b None = refl
-  complete_state true (Some h) = refl
-  complete_state false (Some h) = refl
+  complete_state_kept b None = refl
+  complete_state_kept true (Some h) = refl
+  complete_state_kept false (Some h) = refl
 
-  complete_held : (b : Bool) (o : Option Held) (k : ℕ) (xs : List (Option Held)) → held_with b o k xs ≡ if_done (reply_with b o) (ended k xs) xs
-  complete_held b None k xs = refl
-  complete_held true (Some h) k xs = refl
-  complete_held false (Some h) k xs = refl
+  complete_held_kept : (b : Bool) (o : Option Held) (k : ℕ) (xs : List (Option Held)) → held_with b o k xs ≡ if_done (reply_with b o) (ended k xs) xs
+  complete_held_kept b None k xs = refl
+  complete_held_kept true (Some h) k xs = refl
+  complete_held_kept false (Some h) k xs = refl
 
   clock_state : (t : ℕ) (b d : Bool) →
       cond b (cond d s (clocked s t)) s
@@ -103,11 +103,11 @@ module _ (h : Log) where
   entry c area = record { call = c; before = area; reply = step_reply (after_all h) c area; after = step_area (after_all h) c area }
 
   pub state_kept : (c : Call) (area : List ℕ) → step_state (after_all h) c area ≡ state_of (entry c area ∷ h)
-  state_kept (requests p) area = whole_state s₀ p (too_short area) (request_of p) ∙ counts (entry (requests p) area) _ _ _
-  state_kept (accepts p) area = accept_state s₀ p (too_short area) (request_of p) ∙ counts (entry (accepts p) area) _ _ _
+  state_kept (requests p) area = whole_state_kept s₀ p (too_short area) (request_of p) ∙ counts (entry (requests p) area) _ _ _
+  state_kept (accepts p) area = accept_state_kept s₀ p (too_short area) (request_of p) ∙ counts (entry (accepts p) area) _ _ _
   state_kept (completes k) area =
       by_held (held_at k (still_accepted h))
-      ∙ complete_state s₀ [] (too_short area) (held_at k (still_accepted h))
+      ∙ complete_state_kept s₀ [] (too_short area) (held_at k (still_accepted h))
       ∙ ap (λ (r : Reply). record { clock = clock_of h; count = count_after (reports_given h % 16384) (if_answered r (finished_by (enabled_subschedule h) (enabled_apid h) (held_at k (still_accepted h))) []); subschedules = subschedules_by (if_done r (asked_of (held_at k (still_accepted h))) None) (enabled_subschedule h); apids = apids_by (if_done r (asked_of (held_at k (still_accepted h))) None) (enabled_apid h) })
       (reply_by (held_at k (still_accepted h)))
       ∙ counts (entry (completes k) area) _ _ _
@@ -123,10 +123,10 @@ module _ (h : Log) where
 
   pub held_kept : (c : Call) (area : List ℕ) → step_held (after_all h) c area ≡ still_accepted (entry c area ∷ h)
   held_kept (requests p) area = refl
-  held_kept (accepts p) area = ap (λ (o : Option Held). still_accepted h ++ o ∷ []) (accept_held s₀ p (too_short area) (request_of p))
+  held_kept (accepts p) area = ap (λ (o : Option Held). still_accepted h ++ o ∷ []) (accept_held_kept s₀ p (too_short area) (request_of p))
   held_kept (completes k) area =
       by_held (held_at k (still_accepted h))
-      ∙ complete_held s₀ [] (too_short area) (held_at k (still_accepted h)) k (still_accepted h)
+      ∙ complete_held_kept s₀ [] (too_short area) (held_at k (still_accepted h)) k (still_accepted h)
       ∙ ap (λ (r : Reply). if_done r (ended k (still_accepted h)) (still_accepted h)) (reply_by (held_at k (still_accepted h)))
     where
       by_held : (o : Option Held) → complete_held k o area (still_accepted h) ≡ held_with s₀ [] (too_short area) o k (still_accepted h)
