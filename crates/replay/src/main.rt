@@ -8,6 +8,7 @@ use crate::error::ReplayError;
 use history::session::run;
 use script::script::Script;
 use std::io::{BufRead, BufReader, BufWriter, Write};
+use std::process::ExitCode;
 use std::{env, io};
 use transcript::Transcript;
 
@@ -56,7 +57,7 @@ fn replay(rt: &HostRuntime) -> Result<(), ReplayError> {
     match run(places, calls.as_slice(), notes.as_mut_slice()) {
         Ok(session) => session.end(&mut [0; 4096]),
         // there is room for a request of each call
-        Err(_places) => unreachable(),
+        Err(_places) => unreachable!(),
     };
     let transcript = Transcript::new(
         script.steps().len(),
@@ -88,10 +89,12 @@ fn run_program(rt: &HostRuntime) -> Result<(), ReplayError> {
     replay(rt)
 }
 
-fn main(rt: HostRuntime) -> Result<(), ReplayError> {
-    let result = run_program(&rt);
-    if let Err(error) = &result {
-        let _ = rt.eprintln(format_args!("{error}"));
+fn main(rt: HostRuntime) -> ExitCode {
+    match run_program(&rt) {
+        Ok(()) => ExitCode::SUCCESS,
+        Err(error) => {
+            let _ = rt.eprintln(format_args!("{error}"));
+            ExitCode::FAILURE
+        }
     }
-    result
 }
