@@ -1,6 +1,6 @@
-use Rattle.std.proofs.Common.{◌≡◌, ℕ, ◌*◌, ◌<◌, Bool, true, false, T, eqb, List, [], ◌∷◌, length, get_or, eqb→eq}
+use Rattle.std.proofs.Common.{◌≡◌, ℕ, ◌*◌, ◌<◌, Bool, eqb, List, [], ◌∷◌, get_or, eqb→eq}
 use Rattle.check_field.specs.CheckField.{bit_step, eight_bits}
-use Rattle.check_field.proofs.Table.{at, every}
+use Rattle.check_field.proofs.Table.{at}
 
 abbrev pub rows : List ℕ
 rows =

@@ -1,5 +1,5 @@
 -- What a destination means: packets waiting, a fixed yes or no whether it carries a packet, a present one whether it has space
-use Rattle.std.specs.Prelude.{◌≡◌, List, [], ◌∷◌, ◌++◌, Bool, true, false, cond, ℕ, ◌≤◌, ◌<◌, length, drop, ltb}
+use Rattle.std.specs.Prelude.{◌≡◌, List, [], ◌∷◌, ◌++◌, Bool, true, cond, ℕ, ◌≤◌, ◌<◌, length, drop, ltb}
 use Rattle.destination.specs.declared.Offer.{Offer}
 use Rattle.destination.specs.declared.Offer.TheVariants.{Taken, NotNow, Never}
 

@@ -1,5 +1,5 @@
 -- Octets as pairs of hexadecimal digits
-use Rattle.std.specs.Prelude.{◌≡◌, ℕ, ◌+◌, ◌-◌, ◌*◌, cond, ◌&&◌, ◌⊎◌, List, [], ◌∷◌, ◌++◌, Some, None, Ok, Err, Option, Result, nat_le}
+use Rattle.std.specs.Prelude.{◌≡◌, ℕ, ◌+◌, ◌-◌, ◌*◌, cond, ◌&&◌, ◌⊎◌, List, [], ◌∷◌, Some, None, Ok, Err, Option, Result, nat_le}
 use Rattle.digits.specs.declared.hex.HexError.{HexError}
 use Rattle.digits.specs.declared.hex.HexError.TheVariants.{OddDigits, NotADigit, OutOfMemory}
 

@@ -1,19 +1,18 @@
 -- Each call keeps the history: what the session is afterwards is what the calls and replies say
 use Rattle.std.proofs.Common.{◌≡◌, ℕ, ◌+◌, ◌%◌, ◌^◌, Bool, true, false, cond, ltb, List, [], ◌∷◌, ◌++◌, length, Some, None, Ok, Err, Option, Result, sym, refl, ap, ◌∙◌, subst, arith}
-use Rattle.report.specs.Report.{Content, next_count}
+use Rattle.report.specs.Report.{Content}
 use Rattle.request.specs.declared.rejection.Rejection.{Rejection}
 use Rattle.request.specs.Request.{Told, request_of}
-use Rattle.service.specs.declared.answer.Refusal.{Refusal}
 use Rattle.service.specs.declared.answer.Refusal.TheVariants.{TimeBeyondRange, ClockBackward}
 use Rattle.service.specs.State.{State, count_after, counted, clocked, carried}
-use Rattle.service.specs.Requests.{Held, Accepting, lacks_room, judged, too_short, accept_reports, whole_reports, whole_state, accept_answer, whole_answer, finish_reports, answered}
+use Rattle.service.specs.Requests.{Held, lacks_room, judged, too_short, accept_reports, whole_reports, whole_state, accept_answer, whole_answer, finish_reports, answered}
 use Rattle.history.specs.declared.call.Reply.{Reply}
 use Rattle.history.specs.declared.call.Reply.TheVariants.{NoSuchRequest}
 use Rattle.service.specs.declared.answer.Outcome.TheVariants.{Done}
 use Rattle.history.specs.Log.{Call, requests, accepts, completes, sets_clock, Entry, Log}
 use Rattle.history.specs.Session.{Machine, held_at, ended, whole_reply, accept_reply, accept_held, finish_reply, clock_reply, complete_reply, complete_state, complete_held, step_reply, step_area, step_state, step_held, step_machine, Steps}
 use Rattle.history.specs.Meaning.{if_done, if_accepted, if_answered, if_set, held_by, asked_of, subschedules_by, apids_by, finished_by, clock_of, still_accepted, enabled_subschedule, enabled_apid, given, reports_given, state_of}
-use Rattle.history.specs.Promise.{after_all, Rule, Lawful, History}
+use Rattle.history.specs.Promise.{after_all, Lawful, History}
 use Rattle.history.specs.Agrees.{noted}
 use Rattle.history.proofs.Laws.{one_more, clock_rises, reports_numbered}
 

@@ -1,7 +1,7 @@
 -- The laws over whole runs, from the rule of each call
 use Rattle.std.proofs.Common.{◌≡◌, ℕ, ◌+◌, ◌%◌, ◌^◌, ◌≤◌, Bool, true, false, cond, ltb, List, [], ◌∷◌, ◌++◌, length, take, Some, None, Ok, Err, Option, Result, sym, refl, ap, ◌∙◌, subst, append_assoc, le_refl, arith, length-append}
 use Rattle.std.proofs.lemmas.Bool.{ltb-false}
-use Rattle.report.specs.Report.{Content, next_count, report_of, reports_of, over}
+use Rattle.report.specs.Report.{Content, next_count, report_of, reports_of}
 use Rattle.report.proofs.Over.{take-over}
 use Rattle.request.specs.declared.rejection.Rejection.{Rejection}
 use Rattle.request.specs.Request.{Told, request_of}
@@ -11,7 +11,6 @@ use Rattle.service.specs.State.{State}
 use Rattle.service.specs.Reports.{octets_of, area_after}
 use Rattle.service.specs.Requests.{Held, lacks_room, judged, too_short, accept_reports, finish_reports, whole_reports, accept_answer, whole_answer, answered}
 use Rattle.history.specs.declared.call.Reply.{Reply}
-use Rattle.history.specs.declared.call.Reply.TheVariants.{NoSuchRequest}
 use Rattle.history.specs.Log.{Call, requests, accepts, completes, sets_clock, Entry, Log}
 use Rattle.history.specs.Session.{held_at, whole_reply, accept_reply, finish_reply, clock_reply, complete_reply, complete_area, step_reply, step_area}
 use Rattle.history.specs.Meaning.{if_answered, if_set, finished_by, given_by, clock_by, clock_of, still_accepted, enabled_subschedule, enabled_apid, given, reports_given, state_of}

@@ -1,5 +1,5 @@
 -- The steps of a session, by what the service said
-use Rattle.std.proofs.Common.{◌≡◌, ℕ, zero, suc, ◌+◌, ◌-◌, ◌<◌, ◌≤◌, Bool, true, false, cond, ◌⊎◌, List, [], ◌∷◌, ◌++◌, length, get_or, take, set, Some, None, Ok, Err, Option, Result, sym, refl, ap, ◌∙◌, subst, inl, inr, arith}
+use Rattle.std.proofs.Common.{◌≡◌, ℕ, zero, suc, ◌+◌, ◌-◌, ◌<◌, ◌≤◌, Bool, true, false, cond, ◌⊎◌, List, [], ◌∷◌, ◌++◌, length, get_or, take, set, Some, None, Ok, Err, Option, Result, sym, refl, ap, ◌∙◌, inl, inr, arith}
 use Rattle.std.proofs.lemmas.List.{map-append, get_or-map, get_or_past, length-map, map-set, get_or_push, length_push, get_or_append_left, take_at}
 use Rattle.std.specs.List.{swap_remove}
 use Rattle.service.specs.declared.answer.Refusal.{Refusal}
@@ -11,7 +11,7 @@ use Rattle.service.specs.Requests.{Held, accepting, accept_reports, Accepted', a
 use Rattle.history.specs.declared.call.Reply.{Reply}
 use Rattle.history.specs.declared.call.Reply.TheVariants.{Refused, NoSuchRequest}
 use Rattle.history.specs.Log.{accepts}
-use Rattle.history.specs.Session.{Machine, held_slot, held_slots, held_at, ended, accept_reply, accept_held, can_complete, Steps}
+use Rattle.history.specs.Session.{held_slot, held_slots, held_at, ended, accept_reply, accept_held, can_complete, Steps}
 
 pub accept_steps : (s end : State) (xs ys : List (Option Accepted)) (x : Option Accepted) (p area after : List ℕ) (a : Accepted') →
     a ≡ accept_answer s p (accepting p area) → after ≡ area_after s (accept_reports p (accepting p area)) area →

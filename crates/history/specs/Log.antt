@@ -1,5 +1,5 @@
 -- A run of calls, each with what it brought and what it got back
-use Rattle.std.specs.Prelude.{ℕ, List, [], ◌∷◌, map, vec_items}
+use Rattle.std.specs.Prelude.{ℕ, List, [], ◌∷◌, vec_items}
 use Rattle.history.specs.declared.call.Call.{Call as Asked}
 use Rattle.history.specs.declared.call.Call.TheVariants.{Request, Accept, Complete, SetClock}
 use Rattle.history.specs.declared.call.Reply.{Reply}

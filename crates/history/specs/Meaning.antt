@@ -1,5 +1,5 @@
 -- What a run means, read off its calls and replies alone
-use Rattle.std.specs.Prelude.{ℕ, ◌+◌, ◌%◌, Bool, true, false, List, [], ◌∷◌, ◌++◌, length, Some, None, Ok, Err, Option, Result}
+use Rattle.std.specs.Prelude.{ℕ, ◌+◌, ◌%◌, Bool, false, List, [], ◌∷◌, ◌++◌, length, Some, None, Ok, Err, Option, Result}
 use Rattle.report.specs.Report.{Content}
 use Rattle.request.specs.declared.rejection.Rejection.{Rejection}
 use Rattle.request.specs.Request.{Asked, Told, request_of}

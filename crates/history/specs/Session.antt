@@ -1,12 +1,12 @@
 -- One call on a service and the requests that it has accepted
-use Rattle.std.specs.Prelude.{◌≡◌, ℕ, zero, suc, ◌+◌, Bool, true, false, cond, List, [], ◌∷◌, ◌++◌, map, Some, None, Ok, Err, vec_items, Option, Result, slice_index_or, slice_set}
+use Rattle.std.specs.Prelude.{◌≡◌, ℕ, zero, suc, ◌+◌, Bool, cond, List, [], ◌∷◌, ◌++◌, map, Some, None, Ok, Err, vec_items, Option, Result, slice_index_or, slice_set}
 use Rattle.service.specs.declared.answer.Answer.{Answer}
 use Rattle.service.specs.declared.answer.Refusal.{Refusal}
 use Rattle.service.specs.declared.answer.Refusal.TheVariants.{AreaTooShort}
 use Rattle.service.specs.declared.states.Accepted.{Accepted}
-use Rattle.service.specs.State.{State, view, counted, carried}
+use Rattle.service.specs.State.{State, view, counted}
 use Rattle.service.specs.Reports.{area_after}
-use Rattle.service.specs.Requests.{Held, held_in, too_short, Accepting, accepting, accept_reports, finish_reports, whole_reports, whole_state, Accepted', moves_on, ends, stays, accept_answer, whole_answer, finish_answer, finish_area, finish_state}
+use Rattle.service.specs.Requests.{Held, held_in, too_short, accepting, accept_reports, whole_reports, whole_state, Accepted', moves_on, ends, stays, accept_answer, whole_answer, finish_answer, finish_area, finish_state}
 use Rattle.service.specs.Clock.{clock_answer, clock_after}
 use Rattle.history.specs.declared.call.Reply.{Reply}
 use Rattle.history.specs.declared.call.Reply.TheVariants.{Answered, ClockSet, Refused, NoSuchRequest}

@@ -1,5 +1,5 @@
 -- The application data of a packet, by way of what follows the ten octets of its headers
-use Rattle.std.proofs.Common.{◌≡◌, ℕ, ◌-◌, ◌≤◌, List, length, take, drop, ap, ◌∙◌, arith, length-drop}
+use Rattle.std.proofs.Common.{◌≡◌, ℕ, ◌-◌, List, length, take, drop, ap, ◌∙◌, arith, length-drop}
 use Rattle.std.proofs.lemmas.List.{take_rest}
 
 pub body_is : (p : List ℕ) → take (length (take (length p - 10) (drop 10 p)) - 2) (take (length p - 10) (drop 10 p)) ≡ take (length p - 12) (drop 10 p)

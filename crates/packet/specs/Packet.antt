@@ -1,5 +1,5 @@
 -- What a well-formed telecommand packet is, and which fault a wrong one earns
-use Rattle.std.specs.Prelude.{ℕ, ◌+◌, ◌-◌, ◌/◌, ◌%◌, min, Bool, true, false, cond, ◌&&◌, List, length, take, drop, Ok, Err, Result, ◌==◌, nat_le, nat_lt, slice_index}
+use Rattle.std.specs.Prelude.{ℕ, ◌+◌, ◌-◌, ◌/◌, ◌%◌, min, Bool, true, cond, ◌&&◌, List, length, take, drop, Ok, Err, Result, ◌==◌, nat_le, nat_lt, slice_index}
 use Rattle.check_field.specs.CheckField.{check_field}
 use Rattle.packet.specs.declared.Role.{Role}
 use Rattle.packet.specs.declared.Role.TheVariants.{Request, Command}

@@ -1,5 +1,5 @@
 -- The body of a status report, laid down piece by piece
-use Rattle.std.proofs.Common.{◌≡◌, ℕ, ◌+◌, ◌-◌, ◌*◌, ◌/◌, ◌≤◌, Bool, true, false, cond, eqb, leb, List, [], ◌∷◌, ◌++◌, length, take, drop, set, sym, refl, ap, ◌∙◌, arith, length-append, length-drop, length-take}
+use Rattle.std.proofs.Common.{◌≡◌, ℕ, ◌+◌, ◌-◌, ◌*◌, ◌/◌, ◌≤◌, Bool, true, false, cond, eqb, List, [], ◌∷◌, ◌++◌, length, take, set, sym, refl, ap, ◌∙◌, arith, length-append}
 use borrow.Rule.Slice.PartMut.{put_mid}
 use Rattle.std.proofs.lemmas.Bool.{cond-true, eq-eqb, le-leb, lt-leb}
 use Rattle.packet.specs.Octets.{words}
@@ -7,7 +7,6 @@ use Rattle.packet.proofs.Octets.{length-words}
 use Rattle.report.specs.Report.{over}
 use Rattle.report.proofs.Over.{over_put, take-over}
 use Rattle.status.specs.Status.{flagged, unwords}
-use Rattle.status.proofs.Names.{length_flags}
 use Rattle.request.specs.Request.{few}
 
 two_set : (xs : List ℕ) (a b : ℕ) → 2 ≤ length xs → set (set xs 0 a) 1 b ≡ over (a ∷ b ∷ []) xs

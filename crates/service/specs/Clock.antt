@@ -1,5 +1,5 @@
 -- Setting the clock
-use Rattle.std.specs.Prelude.{ℕ, ◌^◌, Bool, true, false, cond, Ok, Err, Result, nat_lt}
+use Rattle.std.specs.Prelude.{ℕ, ◌^◌, cond, Ok, Err, Result, nat_lt}
 use Rattle.service.specs.declared.answer.Refusal.{Refusal}
 use Rattle.service.specs.declared.answer.Refusal.TheVariants.{TimeBeyondRange, ClockBackward}
 use Rattle.service.specs.State.{State, clocked}

@@ -1,5 +1,5 @@
 -- Which reports a request earns, and their octets
-use Rattle.std.specs.Prelude.{◌≡◌, ℕ, ◌+◌, Bool, true, false, cond, List, [], ◌∷◌, ◌++◌, length}
+use Rattle.std.specs.Prelude.{◌≡◌, ℕ, Bool, cond, List, [], ◌∷◌, ◌++◌, length}
 use Rattle.report.specs.declared.ReportKind.TheVariants.{AcceptanceSuccess, AcceptanceFailure, CompletionSuccess, Status, Connection}
 use Rattle.report.specs.Report.{Content, content_of, two_octets, over, reports_of}
 use Rattle.request.specs.declared.rejection.Rejection.{Rejection}

@@ -1,5 +1,5 @@
 -- The three states of a request, and what each call on one answers, writes and changes
-use Rattle.std.specs.Prelude.{ℕ, ◌+◌, Bool, true, false, cond, List, [], ◌∷◌, ◌++◌, length, Ok, Err, Result, nat_lt}
+use Rattle.std.specs.Prelude.{ℕ, Bool, cond, List, [], ◌++◌, length, Ok, Err, Result, nat_lt}
 use Rattle.report.specs.Report.{Content}
 use Rattle.request.specs.declared.rejection.Rejection.{Rejection}
 use Rattle.request.specs.declared.request.Ack.{Ack}
@@ -10,7 +10,6 @@ use Rattle.service.specs.declared.answer.Outcome.TheVariants.{Accepted as WasAcc
 use Rattle.service.specs.declared.answer.Answer.{Answer}
 use Rattle.service.specs.declared.answer.Refusal.{Refusal}
 use Rattle.service.specs.declared.answer.Refusal.TheVariants.{AreaTooShort, TimeBeyondRange, ClockBackward}
-use Rattle.service.specs.declared.states.Received.{Received}
 use Rattle.service.specs.declared.states.Accepted.{Accepted}
 use Rattle.service.specs.declared.states.Completed.{Completed}
 use Rattle.service.specs.declared.states.Acceptance.{Acceptance}

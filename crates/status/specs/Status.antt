@@ -1,5 +1,5 @@
 -- Which subschedules and application processes are enabled
-use Rattle.std.specs.Prelude.{ℕ, ◌+◌, ◌*◌, ◌/◌, ◌%◌, ◌^◌, Bool, true, false, cond, List, [], ◌∷◌, ◌==◌, nat_lt, slice_index}
+use Rattle.std.specs.Prelude.{ℕ, ◌+◌, ◌/◌, ◌%◌, ◌^◌, Bool, true, false, cond, List, [], ◌∷◌, ◌==◌, nat_lt, slice_index}
 use Rattle.status.specs.declared.Status.{Status}
 
 -- is bit k of the map set

@@ -1,4 +1,4 @@
-use Rattle.std.proofs.Common.{◌≡◌, ℕ, ◌+◌, ◌-◌, List, [], ◌++◌, length, take, refl, ap, ◌∙◌, arith, length-append}
+use Rattle.std.proofs.Common.{◌≡◌, ℕ, ◌-◌, List, [], ◌++◌, length, take, refl, ap, ◌∙◌, arith, length-append}
 use Rattle.check_field.specs.CheckField.{check_field}
 use Rattle.report.specs.Report.{over, two_octets, with_check, report_of}
 use Rattle.report.proofs.Over.{take-over}

@@ -1,6 +1,6 @@
-use Rattle.std.proofs.Common.{◌≡◌, ℕ, ◌+◌, ◌-◌, ◌*◌, ◌/◌, ◌%◌, ◌<◌, ◌≤◌, Bool, true, false, cond, ◌&&◌, eqb, List, [], ◌∷◌, ◌++◌, length, get_or, take, drop, set, sym, refl, ap, ◌∙◌, append_assoc, arith, length-drop, length-set, rules, ltb-false, ltb-true}
-use Rattle.std.proofs.lemmas.List.{take_more_set, take_all, append-nil, length-take-le}
-use Rattle.std.proofs.lemmas.Bool.{and_from, eq-eqb, cond-true}
+use Rattle.std.proofs.Common.{◌≡◌, ℕ, ◌+◌, ◌-◌, ◌*◌, ◌/◌, ◌%◌, ◌<◌, ◌≤◌, Bool, true, false, cond, eqb, List, [], ◌∷◌, ◌++◌, length, get_or, take, drop, set, sym, refl, ap, ◌∙◌, append_assoc, arith, length-set, rules, ltb-false, ltb-true}
+use Rattle.std.proofs.lemmas.List.{take_more_set, take_all, append-nil}
+use Rattle.std.proofs.lemmas.Bool.{eq-eqb, cond-true}
 use Rattle.packet.specs.Octets.{words}
 use Rattle.status.specs.Status.{bit, flagged, unwords}
 use Rattle.status.proofs.Maps.{bit_below}

@@ -1,4 +1,4 @@
-use Rattle.std.proofs.Common.{◌≡◌, ℕ, ◌<◌, ◌⊎◌, List, length, Some, None, Ok, Err, Option, ap, ◌∙◌, inl, inr, arith}
+use Rattle.std.proofs.Common.{◌≡◌, ℕ, ◌<◌, ◌⊎◌, List, length, None, Ok, Err, Option, ap, ◌∙◌, inl, inr, arith}
 use Rattle.service.specs.declared.states.Accepted.{Accepted}
 use Rattle.service.specs.Requests.{held_in, too_short}
 use Rattle.history.specs.declared.call.Reply.TheVariants.{Refused}

@@ -1,10 +1,8 @@
-use Rattle.std.proofs.Common.{◌≡◌, ℕ, ◌+◌, ◌<◌, ◌≤◌, eqb, leb, List, [], ◌∷◌, length, drop, set, vec_items, vec_len, vec_capacity, Option, sym, refl, ap, ◌∙◌, subst, arith}
+use Rattle.std.proofs.Common.{◌≡◌, ℕ, ◌+◌, ◌<◌, ◌≤◌, eqb, leb, List, [], ◌∷◌, length, drop, set, vec_items, vec_len, vec_capacity, sym, refl, ap, ◌∙◌, subst, arith}
 use Rattle.std.proofs.lemmas.Bool.{and_from, eq-eqb, le-leb}
-use Rattle.service.specs.declared.states.Accepted.{Accepted}
-use Rattle.service.specs.State.{State, view}
 use Rattle.history.specs.declared.call.Note.{Note}
 use Rattle.history.specs.declared.session.Session.{Session}
-use Rattle.history.specs.Session.{Machine, machine_of, held_slots}
+use Rattle.history.specs.Session.{machine_of, held_slots}
 use Rattle.history.specs.Promise.{after_all}
 use Rattle.history.proofs.Runs.{Told, turn, idle, begun, over, rest_same, rest_set}
 use Rattle.history.proofs.session.run.Goals as goal

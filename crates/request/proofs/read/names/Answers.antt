@@ -1,4 +1,4 @@
-use Rattle.std.proofs.Common.{◌≡◌, ℕ, ◌+◌, ◌*◌, ◌≤◌, List, length, get_or, take, drop, ap, arith, length-drop, length-take, rules}
+use Rattle.std.proofs.Common.{ℕ, ◌+◌, ◌*◌, ◌≤◌, List, length, get_or, ap, arith, length-drop, length-take, rules}
 use Rattle.std.proofs.lemmas.Bool.{le-leb}
 use Rattle.packet.specs.Octets.{words}
 use Rattle.packet.proofs.Octets.{length-words}

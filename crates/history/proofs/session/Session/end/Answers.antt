@@ -1,4 +1,4 @@
-use Rattle.std.proofs.Common.{◌≡◌, ℕ, List, [], ◌∷◌, ◌++◌, reverse, Some, None, vec_items, Option, sym, ap, ◌∙◌, arith}
+use Rattle.std.proofs.Common.{◌≡◌, ℕ, List, [], ◌∷◌, ◌++◌, reverse, Some, None, vec_items, Option, ap, ◌∙◌, arith}
 use Rattle.service.specs.declared.states.Accepted.{Accepted}
 use Rattle.service.specs.State.{State, view}
 use Rattle.service.specs.Requests.{Held, held_in, finish_state}

@@ -1,5 +1,5 @@
 use Rattle.std.proofs.Common.{sym, subst, arith}
-use Rattle.history.specs.Log.{Call, call_in, sets_clock}
+use Rattle.history.specs.Log.{call_in}
 use Rattle.history.specs.Session.{machine_of, Steps}
 use Rattle.history.specs.declared.call.Call.{Call as Asked}
 use Rattle.history.proofs.session.Session.step.Goals as goal

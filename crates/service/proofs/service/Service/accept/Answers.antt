@@ -1,4 +1,4 @@
-use Rattle.std.proofs.Common.{ℕ, ◌≤◌, List, length, sym, ap, arith}
+use Rattle.std.proofs.Common.{◌≤◌, length, sym, ap, arith}
 use Rattle.request.specs.declared.rejection.Failure.{Failure}
 use Rattle.request.specs.Request.{told_in}
 use Rattle.service.specs.State.{view}

@@ -1,4 +1,4 @@
-use Rattle.std.proofs.Common.{ℕ, ◌-◌, ◌≤◌, Bool, List, length, take, drop, sym, subst, arith}
+use Rattle.std.proofs.Common.{ℕ, ◌-◌, Bool, List, length, take, drop, subst, arith}
 use Rattle.report.specs.Report.{Content}
 use Rattle.request.specs.Request.{Asked, asked_in}
 use Rattle.service.specs.State.{State, view, subschedules_after, apids_after}
