@@ -1,5 +1,5 @@
 -- A packet laid down at a place of the ring, and copied out of it
-use Rattle.std.proofs.Common.{◌≡◌, ℕ, suc, ◌+◌, ◌-◌, ◌/◌, ◌%◌, ◌≤◌, leb, List, [], ◌∷◌, ◌++◌, length, take, drop, sym, ap, ◌∙◌, arith, length-drop, drop-drop, le-leb}
+use Rattle.std.proofs.Common.{◌≡◌, ℕ, suc, ◌+◌, ◌/◌, ◌%◌, ◌≤◌, leb, List, [], ◌∷◌, ◌++◌, length, take, drop, sym, ap, ◌∙◌, arith, length-drop, drop-drop, le-leb}
 use lib.Seq.{take-append-le}
 use Rattle.destination.specs.Destination.{offered}
 use Rattle.destination.specs.declared.Offer.TheVariants.{Taken}

@@ -11,7 +11,7 @@ invariant_of-self c =
     let p = c.args.packet.now in
     let z = step q.inner c.push.new.self p (cause_of q p) c.push.result _ _ refl refl (sound q)
     c.push.ensures.answer c.push.ensures.octets c.push.ensures.used c.push.ensures.same c.push.ensures.start c.push.ensures.size in
-    (z.sound.within, (z.sound.place, (z.sound.exact, (z.sound.fine, tt))))
+    record { within = z.sound.within; place = z.sound.place; exact = z.sound.exact; fine = z.sound.fine }
 
 pub returns : goal.returns
 returns c =
@@ -26,5 +26,5 @@ returns c =
       waiting = z.waiting;
       fixed = λ w. ap (λ (n : ℕ). carried n w) c.push.ensures.size;
       never = λ e. same_queue _ _ (c.push.ensures.same (no_never (carried_by q p) (space_in q p) (cause_of q p) c.push.result a e));
-      not-now = λ e. same_queue _ _ (c.push.ensures.same (no_space (carried_by q p) (space_in q p) (cause_of q p) c.push.result a e));
+      not_now = λ e. same_queue _ _ (c.push.ensures.same (no_space (carried_by q p) (space_in q p) (cause_of q p) c.push.result a e));
     }

@@ -4,7 +4,7 @@ use Rattle.queue.proofs.store.Queue.new.Goals as goal
 
 pub invariant_of-result : goal.invariant_of-result
 unfolding waits
-invariant_of-result c = (omega arith, (omega arith, (refl, (refl, tt))))
+invariant_of-result c = record { within = omega arith; place = omega arith; exact = refl; fine = refl }
 
 pub returns : goal.returns
 unfolding waits

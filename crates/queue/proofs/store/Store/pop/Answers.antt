@@ -1,4 +1,4 @@
-use Rattle.std.proofs.Common.{◌≡◌, ℕ, ◌+◌, ◌-◌, ◌≤◌, List, length, sym, refl, ap, ◌∙◌, arith}
+use Rattle.std.proofs.Common.{◌≡◌, ℕ, ◌+◌, ◌≤◌, List, length, sym, refl, ap, ◌∙◌, arith}
 use Rattle.destination.specs.Destination.{laid}
 use Rattle.queue.specs.Ring.{round}
 use Rattle.queue.specs.Store.{extent, ringed, lying}
@@ -11,8 +11,8 @@ front-n-requires c =
     let h = front_of c.args.self.now c.requires c.if-self-eq0.false in
     record { place = c.requires.place; fits = omega arith; area = omega arith }
 
-pub overflow-add-freed : goal.overflow-add-freed
-overflow-add-freed c =
+pub overflow_add-freed : goal.overflow_add-freed
+overflow_add-freed c =
     let h = front_of c.args.self.now c.requires c.if-self-eq0.false in
     omega arith
 
@@ -21,8 +21,8 @@ onward-self-requires c =
     let h = front_of c.args.self.now c.requires c.if-self-eq0.false in
     (c.requires.place, omega arith)
 
-pub overflow-sub-self : goal.overflow-sub-self
-overflow-sub-self c =
+pub overflow_sub-self : goal.overflow_sub-self
+overflow_sub-self c =
     let h = front_of c.args.self.now c.requires c.if-self-eq0.false in
     omega arith
 
