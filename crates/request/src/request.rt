@@ -6,6 +6,16 @@ pub struct Names<'a> {
     pub apids: &'a [u8],
 }
 
+/// Which pending commands a cancel request ends.
+#[derive(Clone, Copy)]
+pub struct Cancel {
+    pub subschedule: u16,
+    pub tag: u64,
+    pub apid: u16,
+    pub first_count: u16,
+    pub number: u16,
+}
+
 /// A decoded request; what it names is borrowed from the received octets.
 #[derive(Clone, Copy)]
 pub enum Request<'a> {

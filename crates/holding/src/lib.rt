@@ -1,0 +1,3 @@
+//! Slots and the commands that they hold.
+
+#![tactic(auto)]

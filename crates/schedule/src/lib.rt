@@ -1,0 +1,9 @@
+//! The table of pending commands, in slots that the caller lends.
+
+#![tactic(auto)]
+
+pub mod command;
+pub mod listing;
+pub mod moment;
+pub mod pending;
+pub mod slots;

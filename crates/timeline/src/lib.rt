@@ -1,0 +1,6 @@
+//! The timeline: what is enabled, which serials were given, and the commands that are pending.
+
+#![tactic(auto)]
+
+pub mod insert_error;
+pub mod timeline;
