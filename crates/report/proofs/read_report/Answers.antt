@@ -14,5 +14,5 @@ returns c =
     let m : n - 12 - 6 ≡ n - 18 = omega arith in
     let hb : take (n - 12 - 6) (drop 6 (take (length p - 10) (drop 10 p))) ≡ take (n - 18) (drop 16 p) = ap (λ l. take (n - 12 - 6) (drop 6 l)) (take_rest p 10) ∙ ap (take (n - 12 - 6)) (drop-drop 6 10 p) ∙ ap (λ z. take z (drop 16 p)) m in
     let ih : is_head p ≡ true = sym c.is_head.ensures ∙ c.if-not-is_head.false in
-    let ic : is_checked n p ≡ true = sym c.is_checked.ensures ∙ c.if-not-is_checked.false in
+    let ic : is_checked n p ≡ true = cc in
     found p _ n _ _ hn hk c.clock_in.ensures hb ih c.if-size-lt-FRAME.false c.if-size-octets.false ic
