@@ -1,126 +1,108 @@
 -- A new bus
-use Rattle.std.proofs.Common.{◌≡◌, ℕ, zero, suc, ◌+◌, ◌-◌, ◌<◌, ◌≤◌, Bool, true, false, cond, not, ◌&&◌, ◌||◌, eqb, ltb, leb, List, [], ◌∷◌, ◌++◌, map, length, get_or, take, set, replicate, count_by, sym, refl, ap, ◌∙◌, append_assoc, arith, length-set}
-use Rattle.std.proofs.lemmas.List.{set_at, map-set, length_push}
-use Rattle.std.proofs.lemmas.List.Sums.{fold_more}
-use Rattle.std.proofs.lemmas.Bool.{ltb-true, leb-true, ne_eqb, lt-leb, both_ways}
+use Rattle.std.proofs.Common.{◌≡◌, Bool, false, ℕ, zero, suc, ◌+◌, ◌-◌, ◌<◌, true, false, cond, ltb, List, [], ◌∷◌, ◌++◌, map, length, get_or, take, set, replicate, count_by, Some, None, sym, refl, ap, ◌∙◌, append_assoc, append-nil, arith}
+use Rattle.std.specs.List.{position, position_or_len, list_all}
+use Rattle.std.specs.Option.{option_to_list}
+use Rattle.std.proofs.lemmas.List.{set_at, length-map, length_push, map_push, get_or_append_left, get_or-map, get_or-append_right, get_or-replicate, length-append, length-replicate}
+use Rattle.std.proofs.lemmas.List.Concat.{flat_map-append}
+use Rattle.std.proofs.lemmas.List.Sums.{fold_more, position_or_len_is}
+use Rattle.std.proofs.lemmas.Bool.Decides.{nat_tests}
 use Rattle.bus.specs.declared.mailbox.Mailbox.{Mailbox}
 use Rattle.bus.specs.Law.{count_cons, none_full}
-use Rattle.bus.specs.Bus.{is_in, wanted, with_one, listed, carried, apids_in, is_full, has_rank, filled, waiting_in}
-use Rattle.bus.specs.Changes.{fresh, padded}
-use Rattle.bus.specs.Kept.{every, Short, Sound}
+use Rattle.bus.specs.Bus.{no_box, wanted, with_one, listed, carried, apids_in, is_full, is_unused, has_rank, filled, waiting_in}
+use Rattle.bus.specs.Changes.{fresh, given, place_for}
+use Rattle.bus.specs.Kept.{Sound}
 use Rattle.bus.proofs.Ranks.{none_waits}
 
-apids_fresh : (list : List ℕ) → apids_in (map fresh list) ≡ list
-apids_fresh [] = refl
-apids_fresh (a ∷ list) = ap (λ (l : List ℕ). a ∷ l) (apids_fresh list)
+no_apids : (n : ℕ) → apids_in (replicate n no_box) ≡ []
+no_apids zero = refl
+no_apids (suc n) = no_apids n
 
-no_unused : (a n : ℕ) → a ≤ 2047 → is_in a (replicate n 2048) ≡ false
-no_unused a zero h = refl
-no_unused a (suc n) h = let e = ne_eqb 2048 a (λ e. omega arith) in let r = no_unused a n h in simp e r
+own_apids : (list : List ℕ) → apids_in (map fresh list) ≡ list
+own_apids [] = refl
+own_apids (a ∷ list) = ap (λ (l : List ℕ). a ∷ l) (own_apids list)
 
--- the unused mailboxes are for no APID
-in_padded : (a : ℕ) (list : List ℕ) (n : ℕ) → a ≤ 2047 → is_in a (list ++ replicate n 2048) ≡ is_in a list
-in_padded a [] n h = no_unused a n h
-in_padded a (x ∷ xs) n h = ap (λ (b : Bool). eqb x a || b) (in_padded a xs n h)
+-- the mailboxes are for the APIDs of the list
+pub given_apids : (list : List ℕ) → apids_in (given list) ≡ list
+given_apids list =
+    flat_map-append (λ (m : Mailbox). option_to_list m.apid) (map fresh list) (replicate (8 - length list) no_box)
+    ∙ ap (λ (l : List ℕ). apids_in (map fresh list) ++ l) (no_apids (8 - length list)) ∙ append-nil (apids_in (map fresh list)) ∙ own_apids list
 
-pub in_fresh : (a : ℕ) (list : List ℕ) → a ≤ 2047 → is_in a (apids_in (map fresh (padded list))) ≡ is_in a list
-in_fresh a list h = ap (is_in a) (apids_fresh (padded list)) ∙ in_padded a list (8 - length list) h
-
-pub wanted_fresh : (a : ℕ) (list : List ℕ) → (leb a 2047 && (not (is_in a (apids_in (map fresh (padded list)))) && ltb (length list) 8)) ≡ wanted list a
-wanted_fresh a list = split (leb a 2047) refl
-  where
-    split : (b : Bool) → leb a 2047 ≡ b → (b && (not (is_in a (apids_in (map fresh (padded list)))) && ltb (length list) 8)) ≡ (b && (not (is_in a list) && ltb (length list) 8))
-    split true h = ap (λ (b : Bool). not b && ltb (length list) 8) (in_fresh a list (leb-true a 2047 h))
-    split false h = refl
-
-pub wanted_few : (a : ℕ) (list : List ℕ) → wanted list a ≡ true → length list < 8
-wanted_few a list e = split (leb a 2047) (is_in a list) e
-  where
-    split : (b d : Bool) → (b && (not d && ltb (length list) 8)) ≡ true → length list < 8
-    split true true e = let z : ◌≡◌ {A = ℕ} 0 1 = cc in absurd (omega arith)
-    split true false e = ltb-true _ _ e
-    split false d e = let z : ◌≡◌ {A = ℕ} 0 1 = cc in absurd (omega arith)
-
-padded_more : (a : ℕ) (list : List ℕ) → length list < 8 → set (padded list) (length list) a ≡ padded (list ++ a ∷ [])
-padded_more a list h =
-    let l = length_push list a in
-    let n : 8 - length list ≡ suc (8 - length (list ++ a ∷ [])) = omega arith in
-    let k = 8 - length (list ++ a ∷ []) in
-    ap (λ (j : ℕ). set (list ++ replicate j 2048) (length list) a) n
-    ∙ set_at list 2048 (replicate k 2048) a (length list) refl
-    ∙ sym (append_assoc list (a ∷ []) (replicate k 2048))
+-- the first unused one stands behind them
+pub given_unused : (list : List ℕ) → position is_unused (given list) ≡ cond (ltb (length list) 8) (Some (length list)) None
+given_unused list =
+    let front = map fresh list in
+    let n = 8 - length list in
+    let lf = length-map list fresh in
+    let lr = length-replicate n no_box in
+    let l = length-append front (replicate n no_box) in
+    let e : position_or_len is_unused (given list) ≡ length list = position_or_len_is _ (given list) (length list) no_box (omega arith)
+    (λ k h. ap is_unused (get_or_append_left front (replicate n no_box) no_box k (omega arith) ∙ get_or-map fresh list k 0 no_box h))
+    (λ h.
+    let a = get_or-append_right front (replicate n no_box) (length list) (length list) no_box lf (omega arith) in
+    let b = get_or-replicate n (length list - length list) no_box no_box (omega arith) in
+    ap is_unused (a ∙ b)) in
+    grind (arith, nat_tests)
 
 -- one more mailbox given
-pub fresh_more : (a : ℕ) (list : List ℕ) → length list < 8 → set (map fresh (padded list)) (length list) (fresh a) ≡ map fresh (padded (list ++ a ∷ []))
-fresh_more a list h = sym (map-set fresh (padded list) (length list) a) ∙ ap (map fresh) (padded_more a list h)
-
--- the mailboxes given for a list, n of them
-abbrev pub Given : List ℕ → List Mailbox → ℕ → Type 0
-Given list ms n = (length ms ≡ 8) × (n ≤ 8) × (n ≡ length list) × (ms ≡ map fresh (padded list))
-
-pub given_same : (list : List ℕ) (ms ls : List Mailbox) (n k : ℕ) → ls ≡ ms → k ≡ n → Given list ms n → Given list ls k
-given_same list ms ls n k e f g = (ap length e ∙ g.0, omega (arith, g.1), f ∙ g.2, e ∙ g.3)
+given_more : (a : ℕ) (list : List ℕ) → length list < 8 → set (given list) (length list) (fresh a) ≡ given (list ++ a ∷ [])
+given_more a list h =
+    let l = length_push list a in
+    let k = 8 - length (list ++ a ∷ []) in
+    let n : 8 - length list ≡ suc k = omega arith in
+    ap (λ (j : ℕ). set (map fresh list ++ replicate j no_box) (length list) (fresh a)) n
+    ∙ set_at (map fresh list) no_box (replicate k no_box) (fresh a) (length list) (length-map list fresh)
+    ∙ sym (append_assoc (map fresh list) (fresh a ∷ []) (replicate k no_box))
+    ∙ ap (λ (f : List Mailbox). f ++ replicate k no_box) (sym (map_push fresh list a))
 
 -- one more number looked at
-module _ (xs : List ℕ) (i : ℕ) (ms : List Mailbox) (n : ℕ) (lt : i < length xs) (given : Given (listed (take i xs)) ms n) (r : Bool)
-    (is : r ≡ (leb (get_or xs i 0) 2047 && (not (is_in (get_or xs i 0) (apids_in ms)) && ltb n 8))) where
+module _ (xs : List ℕ) (i : ℕ) (lt : i < length xs) where
   more : listed (take (i + 1) xs) ≡ with_one (listed (take i xs)) (get_or xs i 0)
   more = fold_more with_one [] xs i 0 lt
 
-  is_wanted : r ≡ wanted (listed (take i xs)) (get_or xs i 0)
-  is_wanted = let w = wanted_fresh (get_or xs i 0) (listed (take i xs)) in cc
-
-  pub given_yes : r ≡ true → (m : Mailbox) → m ≡ fresh (get_or xs i 0) → Given (listed (take (i + 1) xs)) (set ms n m) (n + 1)
-  given_yes t m e =
+  place_is : place_for (given (listed (take i xs))) (get_or xs i 0) ≡ cond (wanted (listed (take i xs)) (get_or xs i 0)) (Some (length (listed (take i xs)))) None
+  place_is =
       let list = listed (take i xs) in
-      let a = get_or xs i 0 in
-      let h : wanted list a ≡ true = sym is_wanted ∙ t in
-      let few = wanted_few a list h in
-      let k = given.2 in
-      let now : listed (take (i + 1) xs) ≡ list ++ a ∷ [] = more ∙ ap (λ (b : Bool). cond b (list ++ a ∷ []) list) h in
-      let l = length_push list a in
-      let f = fresh_more a list few in
-      let g = given.3 in
-      let z : set ms n m ≡ set (map fresh (padded list)) (length list) (fresh a) = cc in
-      (length-set ms n m ∙ given.0, omega arith, omega (arith, ap length now), z ∙ f ∙ ap (λ (l : List ℕ). map fresh (padded l)) (sym now))
+      let a = given_apids list in
+      let u = given_unused list in
+      rw (a, u) (grind arith)
 
-  pub given_no : r ≡ false → Given (listed (take (i + 1) xs)) ms n
-  given_no t =
+  pub given_yes : (n : ℕ) → place_for (given (listed (take i xs))) (get_or xs i 0) ≡ Some n → set (given (listed (take i xs))) n (fresh (get_or xs i 0)) ≡ given (listed (take (i + 1) xs))
+  given_yes n e =
       let list = listed (take i xs) in
-      let a = get_or xs i 0 in
-      let h : wanted list a ≡ false = sym is_wanted ∙ t in
-      let now : listed (take (i + 1) xs) ≡ list = more ∙ ap (λ (b : Bool). cond b (list ++ a ∷ []) list) h in
-      (given.0, given.1, given.2 ∙ ap length (sym now), given.3 ∙ ap (λ (l : List ℕ). map fresh (padded l)) (sym now))
+      let p = place_is in
+      let w : (wanted list (get_or xs i 0) ≡ true) × (length list ≡ n) = grind arith in
+      let few : length list < 8 = let v = w.0 in grind (arith, nat_tests) in
+      let m = more in
+      let g = given_more (get_or xs i 0) list few in
+      let s = simp w.0 at m in
+      let y = w.1 in
+      cc
 
-pub fresh_filled : (list : List ℕ) → filled (map fresh list) ≡ 0
-fresh_filled [] = refl
-fresh_filled (a ∷ list) = let n = count_cons is_full (fresh a) (map fresh list) in let r = fresh_filled list in omega arith
+  pub given_no : place_for (given (listed (take i xs))) (get_or xs i 0) ≡ None → given (listed (take i xs)) ≡ given (listed (take (i + 1) xs))
+  given_no e =
+      let list = listed (take i xs) in
+      let p = place_is in
+      let w : wanted list (get_or xs i 0) ≡ false = grind arith in
+      let m = more in
+      let s = simp w at m in
+      cc
 
-no_rank : (list : List ℕ) (k : ℕ) → 0 < k → count_by (has_rank k) (map fresh list) ≡ 0
-no_rank [] k h = refl
-no_rank (a ∷ list) k h =
-    let n = count_cons (has_rank k) (fresh a) (map fresh list) in
-    let e = ne_eqb 0 k (λ e. omega arith) in
-    let d : ◌≡◌ {A = ℕ} (cond (eqb 0 k) 1 0) 0 = ap (λ (t : Bool). cond t 1 0) e in
-    let r = no_rank list k h in
-    omega arith
+count_none : (f : Mailbox → Bool) → f no_box ≡ false → ((a : ℕ) → f (fresh a) ≡ false) → (list : List ℕ) (n : ℕ) → count_by f (map fresh list ++ replicate n no_box) ≡ 0
+count_none f unused each [] zero = refl
+count_none f unused each [] (suc n) = let c = count_cons f no_box (replicate n no_box) in let r = count_none f unused each [] n in grind arith
+count_none f unused each (a ∷ list) n = let c = count_cons f (fresh a) (map fresh list ++ replicate n no_box) in let r = count_none f unused each list n in let e = each a in grind arith
 
-fresh_short : (list : List ℕ) → Short (map fresh list)
-fresh_short [] k = omega arith
-fresh_short (a ∷ list) zero = omega arith
-fresh_short (a ∷ list) (suc k) = fresh_short list k
+none_filled : (list : List ℕ) → filled (given list) ≡ 0
+none_filled list = count_none is_full refl (λ _. refl) list (8 - length list)
 
-pub fresh_waits : (list : List ℕ) → waiting_in (map fresh list) ≡ []
-fresh_waits list = none_waits (map fresh list) (fresh_filled list)
+pub given_waits : (list : List ℕ) → waiting_in (given list) ≡ []
+given_waits list = none_waits (given list) (none_filled list)
 
-pub fresh_sound : (list : List ℕ) → Sound (map fresh list)
-fresh_sound list =
+pub given_sound : (list : List ℕ) → Sound (given list)
+given_sound list =
+    let z = none_filled list in
     record {
-      ranks = λ k h.
-          let e = fresh_filled list in
-          let t = lt-leb k (filled (map fresh list)) (omega arith) in
-          no_rank list k h ∙ sym (ap (λ (b : Bool). cond b 1 0) t);
-      homes = λ k f. absurd (both_ways _ (ap (ltb 0) (none_full (map fresh list) k (fresh_filled list))) f);
-      short = fresh_short list;
-      carries = ap (every (carried (apids_in (map fresh list)))) (fresh_waits list);
+      ranks = λ k. let o = count_none (has_rank k) refl (λ _. refl) list (8 - length list) in grind (arith, nat_tests);
+      homes = λ k f. absurd (let n = none_full (given list) k z in cc);
+      carries = ap (list_all (carried (apids_in (given list)))) (given_waits list);
     }

@@ -1,44 +1,32 @@
 -- The mailbox for an APID
-use Rattle.std.proofs.Common.{◌≡◌, ℕ, suc, ◌+◌, ◌<◌, ◌≤◌, Bool, true, false, cond, ◌||◌, eqb, List, [], ◌∷◌, length, get_or, drop, Some, None, refl, ap, ◌∙◌, arith}
-use Rattle.std.proofs.lemmas.List.{at_drop_more, at_drop_all}
-use Rattle.std.proofs.lemmas.Bool.{eq-eqb, ne_eqb}
+use Rattle.std.proofs.Common.{◌≡◌, ℕ, suc, ◌+◌, ◌<◌, Bool, true, false, cond, not, ◌||◌, eqb, ltb, List, [], ◌∷◌, ◌++◌, length, get_or, Some, None, Option, refl, ap, arith}
+use Rattle.std.specs.List.{position}
+use Rattle.std.specs.Option.{is_some, option_eq, option_to_list}
+use Rattle.std.proofs.lemmas.Bool.{eqb-true}
+use Rattle.std.proofs.lemmas.Bool.Decides.{nat_tests}
+use Rattle.std.proofs.lemmas.List.Sums.{passes_at_first}
 use Rattle.bus.specs.declared.mailbox.Mailbox.{Mailbox}
-use Rattle.bus.specs.Bus.{no_box, apids_in, is_in, home}
-use Rattle.bus.specs.Changes.{home_in}
+use Rattle.bus.specs.Bus.{no_box, apids_in, is_in, is_for, home}
 
--- the search has come to place i
-abbrev pub Sought : List Mailbox → ℕ → ℕ → Type 0
-Sought ms a i = (is_in a (apids_in ms) ≡ is_in a (apids_in (drop i ms))) × (home ms a ≡ i + home (drop i ms) a)
-
-pub sought_here : (ms : List Mailbox) (a i : ℕ) → i < length ms → (get_or ms i no_box).apid ≡ a → Sought ms a i → Some i ≡ home_in ms a
-sought_here ms a i lt e v =
-    let t = eq-eqb (get_or ms i no_box).apid a e in
-    let d : is_in a (apids_in (drop i ms)) ≡ (eqb (get_or ms i no_box).apid a || is_in a (apids_in (drop (i + 1) ms))) = at_drop_more (λ l. is_in a (apids_in l)) ms i no_box lt in
-    let y : is_in a (apids_in ms) ≡ true = v.0 ∙ d ∙ simp t in
-    let h : home (drop i ms) a ≡ cond (eqb (get_or ms i no_box).apid a) 0 (suc (home (drop (i + 1) ms) a)) = at_drop_more (λ l. home l a) ms i no_box lt in
-    let z : home (drop i ms) a ≡ 0 = h ∙ simp t in
-    let k : i ≡ home ms a = omega (arith, v.1) in
-    simp y (ap (λ (j : ℕ). Some j) k)
-
-pub sought_next : (ms : List Mailbox) (a i : ℕ) → i < length ms → ((get_or ms i no_box).apid ≡ a → ⊥) → Sought ms a i → Sought ms a (i + 1)
-sought_next ms a i lt e v =
-    let t = ne_eqb (get_or ms i no_box).apid a e in
-    let d : is_in a (apids_in (drop i ms)) ≡ (eqb (get_or ms i no_box).apid a || is_in a (apids_in (drop (i + 1) ms))) = at_drop_more (λ l. is_in a (apids_in l)) ms i no_box lt in
-    let h : home (drop i ms) a ≡ cond (eqb (get_or ms i no_box).apid a) 0 (suc (home (drop (i + 1) ms) a)) = at_drop_more (λ l. home l a) ms i no_box lt in
-    let z : home (drop i ms) a ≡ suc (home (drop (i + 1) ms) a) = h ∙ simp t in
-    (v.0 ∙ d ∙ simp t, omega (arith, v.1))
-
-pub sought_none : (ms : List Mailbox) (a i : ℕ) → length ms ≤ i → Sought ms a i → None ≡ home_in ms a
-sought_none ms a i h v =
-    let d : is_in a (apids_in (drop i ms)) ≡ false = at_drop_all (λ l. is_in a (apids_in l)) ms i h in
-    let y : is_in a (apids_in ms) ≡ false = v.0 ∙ d in
-    simp y
-
--- a listed APID's mailbox is one of them
-pub home_within : (ms : List Mailbox) (a : ℕ) → is_in a (apids_in ms) ≡ true → home ms a < length ms
-home_within [] a e = let z : ◌≡◌ {A = ℕ} 0 1 = cc in absurd (omega arith)
-home_within (m ∷ ms) a e = split (λ r. home_within ms a r) (eqb m.apid a) refl e
+first_is : (o : Option ℕ) (a n l : ℕ) (rest : List ℕ) → is_in a rest ≡ ltb n l → is_in a (option_to_list o ++ rest) ≡ ltb (cond (not (option_eq eqb o (Some a))) (1 + n) 0) (suc l)
+first_is None a n l rest e = grind (arith, nat_tests)
+first_is (Some x) a n l rest e = split (eqb x a)
   where
-    split : (is_in a (apids_in ms) ≡ true → home ms a < length ms) → (b : Bool) → eqb m.apid a ≡ b → (b || is_in a (apids_in ms)) ≡ true → home (m ∷ ms) a < length (m ∷ ms)
-    split rec true h e = simp h (omega arith)
-    split rec false h e = let r = rec e in simp h (omega arith)
+    split : (b : Bool) → (b || is_in a rest) ≡ ltb (cond (not b) (1 + n) 0) (suc l)
+    split true = grind (arith, nat_tests)
+    split false = grind (arith, nat_tests)
+
+-- an APID is listed where a mailbox is for it
+pub listed_is : (ms : List Mailbox) (a : ℕ) → is_in a (apids_in ms) ≡ ltb (home ms a) (length ms)
+listed_is [] a = refl
+listed_is (m ∷ ms) a = first_is m.apid a (home ms a) (length ms) (apids_in ms) (listed_is ms a)
+
+pub listed_found : (ms : List Mailbox) (a : ℕ) → is_in a (apids_in ms) ≡ is_some (position (is_for a) ms)
+listed_found ms a = let l = listed_is ms a in grind arith
+
+own : (o : Option ℕ) (a : ℕ) → option_eq eqb o (Some a) ≡ true → o ≡ Some a
+own None a e = absurd (cc)
+own (Some x) a e = ap Some (eqb-true x a e)
+
+pub home_apid : (ms : List Mailbox) (a : ℕ) → home ms a < length ms → (get_or ms (home ms a) no_box).apid ≡ Some a
+home_apid ms a l = own _ a (passes_at_first (is_for a) ms no_box l)

@@ -1,8 +1,7 @@
 pub mod Ranks
-pub mod Homes
 pub mod First
+pub mod Homes
 pub mod Keeping
-pub mod Steps
 pub mod Offers
 pub mod Same
 pub mod Fresh

@@ -1,5 +1,8 @@
 -- The bus: a mailbox for each listed APID, which holds one packet at most
-use Rattle.std.specs.Prelude.{ℕ, zero, suc, ◌+◌, ◌*◌, ◌%◌, Bool, false, cond, not, ◌&&◌, ◌||◌, List, [], ◌∷◌, ◌++◌, map, length, take, fold, count_by, ◌==◌, nat_le, nat_lt, slice_index, slice_index_or}
+use Rattle.std.specs.Prelude.{ℕ, ◌+◌, ◌*◌, ◌%◌, Bool, false, cond, not, ◌&&◌, List, [], ◌∷◌, ◌++◌, map, length, fold, count_by, Some, None, Option, ◌==◌, nat_eq, nat_le, nat_lt, slice_index, slice_index_or}
+use Rattle.std.specs.List.{list_any, flat_map, position_or_len, range_with_len}
+use Rattle.std.specs.Option.{is_none, is_some, option_eq, option_to_list}
+use Rattle.bus.specs.declared.mailbox.Held.{Held}
 use Rattle.bus.specs.declared.mailbox.Mailbox.{Mailbox}
 
 -- a packet's APID: the lower 11 bits of octets 0 and 1
@@ -7,8 +10,7 @@ abbrev pub apid_of : List ℕ → ℕ
 apid_of p = (slice_index p 0 * 256 + slice_index p 1) % 2048
 
 abbrev pub is_in : ℕ → List ℕ → Bool
-is_in a [] = false
-is_in a (x ∷ xs) = x == a || is_in a xs
+is_in a list = list_any (λ x. x == a) list
 
 -- a number is listed where it is at most 2047, is not listed yet, and fewer than eight are
 abbrev pub wanted : List ℕ → ℕ → Bool
@@ -32,33 +34,47 @@ carried list p = sized p && is_in (apid_of p) list
 abbrev pub why : List ℕ → List ℕ → ℕ
 why list p = cond (sized p) (cond (is_in (apid_of p) list) 3 4) 5
 
--- the APIDs of the mailboxes; an unused one has 2048, which is no packet's
+-- the APIDs of the mailboxes that have one
 abbrev pub apids_in : List Mailbox → List ℕ
-apids_in ms = map (λ m. m.apid) ms
+apids_in ms = flat_map (λ m. option_to_list m.apid) ms
 
--- the octets in a mailbox
+-- whether a mailbox is for an APID
+abbrev pub is_for : ℕ → Mailbox → Bool
+is_for a m = option_eq nat_eq m.apid (Some a)
+
+-- the octets of a packet that is held, if one is
+abbrev pub octets_of : Option Held → List ℕ
+octets_of None = []
+octets_of (Some h) = h.octets
+
 abbrev pub held : Mailbox → List ℕ
-held m = take m.len m.octets
+held m = octets_of m.packet
 
--- a filled mailbox has a rank, 1 for the oldest packet; an empty one has 0
 abbrev pub is_full : Mailbox → Bool
-is_full m = nat_lt 0 m.rank
+is_full m = is_some m.packet
+
+-- whether a packet is held that is of rank k: 0 is that of the oldest
+abbrev pub ranks_as : ℕ → Option Held → Bool
+ranks_as k None = false
+ranks_as k (Some h) = h.rank == k
 
 abbrev pub has_rank : ℕ → Mailbox → Bool
-has_rank k m = m.rank == k
+has_rank k m = ranks_as k m.packet
 
 -- how many mailboxes are filled
 abbrev pub filled : List Mailbox → ℕ
 filled ms = count_by is_full ms
 
--- past the last mailbox all is empty
+abbrev pub is_unused : Mailbox → Bool
+is_unused m = is_none m.apid
+
+-- an unused mailbox, as is all past the last
 abbrev pub no_box : Mailbox
-no_box = record { apid = 0; rank = 0; len = 0; octets = [] }
+no_box = record { apid = None; packet = None }
 
 -- the place of the first mailbox for an APID
 abbrev pub home : List Mailbox → ℕ → ℕ
-home [] a = 0
-home (m ∷ ms) a = cond (m.apid == a) 0 (suc (home ms a))
+home ms a = position_or_len (is_for a) ms
 
 -- space for a packet: its APID's mailbox is empty
 abbrev pub space : List Mailbox → List ℕ → Bool
@@ -69,11 +85,6 @@ abbrev pub of_rank : List Mailbox → ℕ → List ℕ
 of_rank [] k = []
 of_rank (m ∷ ms) k = cond (has_rank k m) (held m) (of_rank ms k)
 
--- the packets of n ranks, from k on
-abbrev pub from_rank : List Mailbox → ℕ → ℕ → List (List ℕ)
-from_rank ms k zero = []
-from_rank ms k (suc n) = of_rank ms k ∷ from_rank ms (k + 1) n
-
--- what waits: the packets of rank 1, 2 and so on, as many as there are
+-- what waits: the packets of rank 0, 1 and so on, as many as there are
 unfoldable pub waiting_in : List Mailbox → List (List ℕ)
-waiting_in ms = from_rank ms 1 (filled ms)
+waiting_in ms = map (of_rank ms) (range_with_len 0 (filled ms))

@@ -2,16 +2,16 @@
 
 #![tactic(auto)]
 
-ghost use Rattle.std.specs.Prelude.{◌≡◌, ℕ, ◌≤◌, []};
-ghost use Rattle.bus.specs.Bus.{apids_in, is_in, listed, carried, space, why, waiting_in};
-ghost use Rattle.bus.specs.Kept.{Ranked, Homed, Short, Carried};
+ghost use Rattle.std.specs.Prelude.{◌≡◌, []};
+ghost use Rattle.bus.specs.Bus.{apids_in, listed, carried, space, why, waiting_in};
+ghost use Rattle.bus.specs.Kept.{Sound};
 ghost use Rattle.bus.specs.Law.{bus_laws};
 
 mod arrival;
 mod mailbox;
 mod mailboxes;
 
-use destination::{Destination, Offer};
+use destination::{Destination, Refused};
 use mailboxes::Mailboxes;
 
 /// A bus: each listed APID has a mailbox, which holds one packet at most.
@@ -19,17 +19,14 @@ use mailboxes::Mailboxes;
 pub struct Bus {
     // lent to the functions that work on it, so what holds of it is said here
     pub(crate) inner: Mailboxes,
-    ghost ranks: { Ranked inner.boxes },
-    ghost homes: { Homed inner.boxes },
-    ghost short: { Short inner.boxes },
-    ghost carries: { Carried inner.boxes },
+    ghost sound: { Sound inner.boxes },
 }
 
 impl Bus {
     /// A bus for the first eight different ones of these numbers that are APIDs, which is 0 to 2047.
     pub fn new(apids: &[u16]) -> Bus
         ensures empty { waiting_in result.inner.boxes ≡ [] }
-        ensures mailboxes { (a : ℕ) → a ≤ 2047 → is_in a (apids_in result.inner.boxes) ≡ is_in a (listed apids.now) }
+        ensures mailboxes { apids_in result.inner.boxes ≡ listed apids.now }
     {
         let inner = Mailboxes::new(apids);
         Bus { inner }
@@ -49,13 +46,13 @@ impl Destination for Bus {
 
     ghost cause = { λ b p. why (apids_in b.inner.boxes) p };
 
-    ghost laws = { bus_laws (λ b. b.inner.boxes) (λ b. b.carries) };
+    ghost laws = { bus_laws (λ b. b.inner.boxes) (λ b. b.sound.carries) };
 
     fn kind_number() -> u16 {
         Self::KIND
     }
 
-    fn offer(&mut self, packet: &[u8]) -> Offer {
+    fn offer(&mut self, packet: &[u8]) -> Result<(), Refused> {
         self.inner.offer(packet)
     }
 

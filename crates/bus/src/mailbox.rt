@@ -1,59 +1,90 @@
-ghost use Rattle.std.specs.Prelude.{◌≡◌, ◌<◌, ◌≤◌, map, length, IfSome};
+ghost use Rattle.std.specs.Prelude.{◌≡◌, ◌≤◌, map, length};
+ghost use Rattle.std.specs.List.{position};
 ghost use Rattle.destination.specs.Destination.{laid};
-ghost use Rattle.bus.specs.Bus.{apid_of, held, is_full, filled};
-ghost use Rattle.bus.specs.Changes.{fresh, holding, home_in, lowered};
+ghost use Rattle.bus.specs.Bus.{apid_of, held, is_full, is_unused, is_for, filled};
+ghost use Rattle.bus.specs.Changes.{fresh, holding, lowered};
+
+use destination::LONGEST;
+use octets::Octets;
+
+/// A packet that is held.
+#[derive(Clone, Copy)]
+pub struct Held {
+    // its place in arrival, 0 for the oldest
+    pub(crate) rank: u8,
+    pub(crate) octets: Octets<LONGEST>,
+}
 
 /// A mailbox: at most one packet, for one APID.
 #[derive(Clone, Copy)]
 pub struct Mailbox {
-    // `UNUSED` where no APID was given
-    pub(crate) apid: u16,
-    // the packet's place in arrival, 1 for the oldest; 0 where the mailbox is empty
-    pub(crate) rank: u8,
-    pub(crate) len: u8,
-    pub(crate) octets: [u8; 228],
+    // none where no APID was given
+    pub(crate) apid: Option<u16>,
+    pub(crate) packet: Option<Held>,
 }
 
 impl Mailbox {
-    /// The APID of an unused mailbox: no packet has it.
-    pub(crate) const UNUSED: u16 = 2048;
+    pub(crate) const UNUSED: Mailbox = Mailbox {
+        apid: None,
+        packet: None,
+    };
 
     pub(crate) fn new(apid: u16) -> Mailbox
         ensures { result ≡ fresh apid }
     {
         Mailbox {
-            apid,
-            rank: 0,
-            len: 0,
-            octets: [0; 228],
+            apid: Some(apid),
+            packet: None,
         }
+    }
+
+    pub(crate) fn is_unused(&self) -> bool
+        ensures { result ≡ is_unused self.now }
+    {
+        self.apid.is_none()
     }
 
     pub(crate) fn is_full(&self) -> bool
         ensures { result ≡ is_full self.now }
     {
-        self.rank > 0
+        self.packet.is_some()
     }
 
     pub(crate) fn put(&mut self, rank: u8, packet: &[u8])
-        requires { length packet.now ≤ 228 }
         ensures { self.new ≡ holding self.old rank packet.now }
     {
-        let n = packet.len();
-        self.octets[0..n].copy_from_slice(packet);
-        self.len = n as u8;
-        self.rank = rank;
+        let held = Held {
+            rank,
+            octets: Octets::new(packet),
+        };
+        self.packet = Some(held);
+    }
+
+    /// Moves the packet up by one in arrival; the oldest is let go.
+    pub(crate) fn move_up(&mut self)
+        ensures { self.new ≡ lowered self.old }
+    {
+        let Some(packet) = &mut self.packet else {
+            return;
+        };
+        match packet.rank.checked_sub(1) {
+            Some(rank) => packet.rank = rank,
+            None => self.packet = None,
+        }
     }
 
     /// Copies the packet to the start of the area, and answers its length.
     pub(crate) fn copy_to(&self, area: &mut [u8]) -> usize
-        requires { (self.now.len ≤ 228) × (228 ≤ length area.old) }
+        requires { 228 ≤ length area.old }
         ensures answer { result ≡ length (held self.now) }
         ensures area { area.new ≡ laid (held self.now) area.old }
     {
-        let n = self.len as usize;
-        area[0..n].copy_from_slice(&self.octets[0..n]);
-        n
+        let Some(packet) = &self.packet else {
+            return 0;
+        };
+        let octets = packet.octets.as_slice();
+        area[..octets.len()].copy_from_slice(octets);
+        octets.len()
     }
 }
 
@@ -66,35 +97,29 @@ pub(crate) fn apid_of(packet: &[u8]) -> u16
 
 /// The place of an APID's mailbox.
 pub(crate) fn find(boxes: &[Mailbox], apid: u16) -> Option<usize>
-    ensures home { result ≡ home_in boxes.now apid }
-    ensures within { IfSome result (λ i. i < length boxes.now) }
+    ensures { result ≡ position (is_for apid) boxes.now }
 {
-    for (i, mailbox) in boxes.iter().enumerate() {
-        if mailbox.apid == apid {
-            return Some(i);
-        }
-    }
-    None
+    boxes.iter().position(|mailbox| mailbox.apid == Some(apid))
+}
+
+/// The place of the first mailbox that is for no APID yet.
+pub(crate) fn find_unused(boxes: &[Mailbox]) -> Option<usize>
+    ensures { result ≡ position is_unused boxes.now }
+{
+    boxes.iter().position(|mailbox| mailbox.is_unused())
 }
 
 pub(crate) fn count_filled(boxes: &[Mailbox]) -> usize
-    ensures count { result ≡ filled boxes.now }
-    ensures few { result ≤ length boxes.now }
+    ensures { result ≡ filled boxes.now }
 {
-    let mut n = 0;
-    for mailbox in boxes {
-        if mailbox.is_full() {
-            n += 1;
-        }
-    }
-    n
+    boxes.iter().filter(|mailbox| mailbox.is_full()).count()
 }
 
-/// Moves every packet up by one in arrival; the oldest, of rank 1, is thereby let go.
+/// Moves every packet up by one in arrival; the oldest is thereby let go.
 pub(crate) fn lower_ranks(boxes: &mut [Mailbox])
     ensures { boxes.new ≡ map lowered boxes.old }
 {
     for mailbox in boxes.iter_mut() {
-        mailbox.rank = mailbox.rank.saturating_sub(1);
+        mailbox.move_up();
     }
 }

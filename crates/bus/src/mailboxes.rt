@@ -1,19 +1,22 @@
-ghost use Rattle.std.specs.Prelude.{◌≡◌, ◌<◌, false, not, ◌&&◌, [], map, length, nat_le, nat_lt};
+ghost use Rattle.std.specs.Prelude.{◌≡◌, ◌<◌, false, [], length};
 ghost use Rattle.destination.specs.Destination.{offered, waiting_after, given, left, laid};
-ghost use Rattle.bus.specs.Bus.{apids_in, is_in, listed, carried, space, why, waiting_in};
-ghost use Rattle.bus.specs.Changes.{padded, fresh};
+ghost use Rattle.bus.specs.Bus.{apids_in, listed, carried, space, why, waiting_in};
+ghost use Rattle.bus.specs.Changes.{place_for, given as given_for};
 ghost use Rattle.bus.specs.Kept.{Sound};
 
 use crate::arrival::oldest;
-use crate::mailbox::{Mailbox, apid_of, count_filled, find, lower_ranks};
-use destination::Offer;
+use crate::mailbox::{Mailbox, apid_of, count_filled, find, find_unused, lower_ranks};
+use destination::{LONGEST, Refused, SHORTEST};
 
-// Why a packet is refused: its mailbox is filled, its APID is not listed, its length.
-const FILLED: u16 = 3;
-
-const NOT_LISTED: u16 = 4;
-
-const LENGTH: u16 = 5;
+/// Why a packet is refused.
+enum Cause {
+    /// Its mailbox is filled.
+    Filled = 3,
+    /// Its APID is not listed.
+    NotListed = 4,
+    /// Its length is out of bounds.
+    BadLength = 5,
+}
 
 /// The mailboxes, with no invariant of their own, so that one may be lent.
 #[derive(Drop)]
@@ -21,29 +24,30 @@ pub struct Mailboxes {
     pub(crate) boxes: [Mailbox; 8],
 }
 
-// Whether a number is to be listed, where `used` are already.
-fn is_wanted(boxes: &[Mailbox], used: usize, number: u16) -> bool
-    ensures { result ≡ (nat_le number 2047 && (not (is_in number (apids_in boxes.now)) && nat_lt used 8)) }
+/// The place of the mailbox that is to be for a number, if it is to be listed and one is unused.
+fn place_for(boxes: &[Mailbox], number: u16) -> Option<usize>
+    ensures { result ≡ place_for boxes.now number }
 {
-    number <= 2047 && find(boxes, number).is_none() && used < 8
+    if number > 2047 || find(boxes, number).is_some() {
+        return None;
+    }
+    find_unused(boxes)
 }
 
 impl Mailboxes {
     pub(crate) fn new(apids: &[u16]) -> Mailboxes
-        ensures { result.boxes ≡ map fresh (padded (listed apids.now)) }
+        ensures { result.boxes ≡ given_for (listed apids.now) }
     {
-        let mut boxes = [Mailbox::new(Mailbox::UNUSED); 8];
-        let mut used = 0;
+        let mut boxes = [Mailbox::UNUSED; 8];
         for apid in apids {
-            if is_wanted(&boxes, used, *apid) {
-                boxes[used] = Mailbox::new(*apid);
-                used += 1;
+            if let Some(place) = place_for(&boxes, *apid) {
+                boxes[place] = Mailbox::new(*apid);
             }
         }
         Mailboxes { boxes }
     }
 
-    pub(crate) fn offer(&mut self, packet: &[u8]) -> Offer
+    pub(crate) fn offer(&mut self, packet: &[u8]) -> Result<(), Refused>
         requires { Sound self.old.boxes }
         ensures answer { result ≡ offered (carried (apids_in self.old.boxes) packet.now) (space self.old.boxes packet.now) (why (apids_in self.old.boxes) packet.now) }
         ensures waiting { waiting_in self.new.boxes ≡ waiting_after (carried (apids_in self.old.boxes) packet.now) (space self.old.boxes packet.now) (waiting_in self.old.boxes) packet.now }
@@ -52,19 +56,18 @@ impl Mailboxes {
         ensures not_now { space self.old.boxes packet.now ≡ false → self.new ≡ self.old }
         ensures sound { Sound self.new.boxes }
     {
-        if packet.len() < 12 || packet.len() > 228 {
-            return Offer::Never(LENGTH);
+        if !(SHORTEST..=LONGEST).contains(&packet.len()) {
+            return Err(Refused::Never(Cause::BadLength as u16));
         }
-        let Some(place) = find(&self.boxes, apid_of(packet)) else {
-            return Offer::Never(NOT_LISTED);
-        };
+        let unlisted = Refused::Never(Cause::NotListed as u16);
+        let place = find(&self.boxes, apid_of(packet)).ok_or(unlisted)?;
         if self.boxes[place].is_full() {
-            return Offer::NotNow(FILLED);
+            return Err(Refused::NotNow(Cause::Filled as u16));
         }
-        // the filled ones have the ranks up to their number, so the next is free
-        let rank = count_filled(&self.boxes) + 1;
+        // the filled ones have the ranks below their number, so that is free
+        let rank = count_filled(&self.boxes);
         self.boxes[place].put(rank as u8, packet);
-        Offer::Taken
+        Ok(())
     }
 
     pub(crate) fn take(&mut self, area: &mut [u8]) -> usize
@@ -77,7 +80,7 @@ impl Mailboxes {
         ensures empty { waiting_in self.old.boxes ≡ [] → self.new ≡ self.old }
         ensures sound { Sound self.new.boxes }
     {
-        if area.len() < 228 {
+        if area.len() < LONGEST {
             return 0;
         }
         let Some(place) = oldest(&self.boxes) else {

@@ -5,14 +5,19 @@
 ghost use Rattle.std.specs.Prelude.{◌≡◌, Bool, false, List, [], ℕ, ◌<◌, length};
 ghost use Rattle.destination.specs.Destination.{Laws, offered, waiting_after, given, left, laid};
 
-/// What became of a packet that was offered.
-#[derive(Clone, Copy)]
-pub enum Offer {
-    /// It waits behind the others.
-    Taken,
-    /// There is no space for it now, for this cause; nothing has changed.
+/// The shortest packet that a destination may carry.
+pub const SHORTEST: usize = 12;
+
+/// The longest, and the least area to take a packet into.
+pub const LONGEST: usize = 228;
+
+/// Why a packet that was offered is refused; nothing has changed. The cause is a number, so that
+/// makers may have their own.
+#[derive(Clone, Copy, PartialEq, Eq, Debug)]
+pub enum Refused {
+    /// There is no space for it now.
     NotNow(u16),
-    /// It is never carried, for this cause; nothing has changed.
+    /// It is never carried.
     Never(u16),
 }
 
@@ -21,6 +26,8 @@ pub trait Destination {
     /// The number of this kind of destination.
     const KIND: u16;
 
+    // a `ghost KIND` beside the constant was tried: at a type with a lifetime, as the queue, the
+    // check "cannot give this method the clauses of its trait yet"
     ghost number: { ℕ };
 
     ghost waiting: { Self → List (List ℕ) };
@@ -40,8 +47,8 @@ pub trait Destination {
     fn kind_number() -> u16
         ensures { result ≡ number };
 
-    /// Offers a packet.
-    fn offer(&mut self, packet: &[u8]) -> Offer
+    /// Offers a packet. Where it is taken, it waits behind the others.
+    fn offer(&mut self, packet: &[u8]) -> Result<(), Refused>
         ensures answer { result ≡ offered (carries self.old packet.now) (roomy self.old packet.now) (cause self.old packet.now) }
         ensures waiting { waiting self.new ≡ waiting_after (carries self.old packet.now) (roomy self.old packet.now) (waiting self.old) packet.now }
         ensures fixed { (p : List ℕ) → carries self.new p ≡ carries self.old p }

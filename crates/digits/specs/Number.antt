@@ -1,5 +1,6 @@
 -- Decimal numbers
-use Rattle.std.specs.Prelude.{ℕ, ◌+◌, ◌-◌, ◌*◌, ◌^◌, Bool, true, false, cond, ◌&&◌, List, [], ◌∷◌, length, Ok, Err, Result, nat_le, nat_lt}
+use Rattle.std.specs.Prelude.{ℕ, ◌+◌, ◌-◌, ◌*◌, ◌^◌, Bool, cond, ◌&&◌, List, [], ◌∷◌, length, Ok, Err, Result, nat_le, nat_lt}
+use Rattle.std.specs.List.{list_all}
 use Rattle.digits.specs.declared.number.NumberError.{NumberError}
 use Rattle.digits.specs.declared.number.NumberError.TheVariants.{NotANumber, TooLarge}
 
@@ -7,8 +8,7 @@ abbrev pub is_digit : ℕ → Bool
 is_digit c = nat_le 48 c && nat_le c 57
 
 abbrev pub all_digits : List ℕ → Bool
-all_digits [] = true
-all_digits (c ∷ cs) = cond (is_digit c) (all_digits cs) false
+all_digits = list_all is_digit
 
 -- the number n, continued by more digits
 abbrev pub decimal_of : ℕ → List ℕ → ℕ

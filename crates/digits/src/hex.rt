@@ -5,15 +5,19 @@ ghost use Rattle.digits.specs.declared.hex.HexError.TheVariants.{OutOfMemory};
 
 use std::alloc::{AllocError, AllocFailed, Global};
 use std::fmt;
+use thiserror::Error;
 
 /// Why a text is no row of octets.
-#[derive(Clone, Copy)]
+#[derive(Clone, Copy, Debug, Error)]
 pub enum HexError {
     /// A digit has no second one.
+    #[error("hexadecimal digits come in pairs")]
     OddDigits,
     /// A character is no hexadecimal digit.
+    #[error("not a hexadecimal digit")]
     NotADigit,
     /// There is no memory for the octets.
+    #[error("out of memory")]
     OutOfMemory,
 }
 
@@ -38,6 +42,7 @@ pub fn digit_value(digit: u8) -> Option<u8>
     ensures value { result ≡ digit_of digit }
     ensures small { IfSome result (λ v. v < 16) }
 {
+    // `char::to_digit` is no plainer: it wants casts to a char and from a u32
     match digit {
         b'0'..=b'9' => Some(digit - b'0'),
         b'A'..=b'F' => Some(digit - b'A' + 10),
@@ -50,24 +55,19 @@ pub fn digit_value(digit: u8) -> Option<u8>
 pub fn pair_value(upper: u8, lower: u8) -> Option<u8>
     ensures { result ≡ pair_of (digit_of upper) (digit_of lower) }
 {
-    match (digit_value(upper), digit_value(lower)) {
-        (Some(upper), Some(lower)) => Some(upper * 16 + lower),
-        _ => None,
-    }
+    let upper = digit_value(upper)?;
+    let lower = digit_value(lower)?;
+    Some(upper * 16 + lower)
 }
 
 /// The octets that a text of hexadecimal digits writes, a pair for each.
 pub fn octets(heap: Global, text: &[u8]) -> Result<Vec<u8>, HexError>
     ensures { MatchResult result (λ v. octets_of text.now ≡ Ok v.items) (λ e. Refuses text.now e) }
 {
-    let mut found = Vec::with_capacity(heap, text.len() / 2)?;
-    let mut rest = text;
-    while let [upper, lower, more @ ..] = rest {
-        let Some(octet) = pair_value(*upper, *lower) else {
-            return Err(HexError::NotADigit);
-        };
-        found.push(octet)?;
-        rest = more;
+    let (pairs, rest) = text.as_chunks::<2>();
+    let mut found = Vec::with_capacity(heap, pairs.len())?;
+    for [upper, lower] in pairs {
+        found.push(pair_value(*upper, *lower).ok_or(HexError::NotADigit)?)?;
     }
     if rest.is_empty() {
         Ok(found)

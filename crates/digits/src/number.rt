@@ -15,14 +15,7 @@ pub enum NumberError {
 fn all_digits(word: &[u8]) -> bool
     ensures { result ≡ all_digits word.now }
 {
-    let mut rest = word;
-    while let [digit, more @ ..] = rest {
-        if *digit < b'0' || *digit > b'9' {
-            return false;
-        }
-        rest = more;
-    }
-    true
+    word.iter().all(u8::is_ascii_digit)
 }
 
 // A number continued by one more digit.
@@ -30,7 +23,7 @@ fn with_digit(number: u64, digit: u8) -> Option<u64>
     requires { is_digit digit ≡ true }
     ensures { SomeIff result (number * 10 + (digit - 48) < 2 ^ 64) (number * 10 + (digit - 48)) }
 {
-    number.checked_mul(10)?.checked_add((digit - b'0') as u64)
+    number.checked_mul(10)?.checked_add(u64::from(digit - b'0'))
 }
 
 // The number that decimal digits write.
@@ -38,14 +31,9 @@ fn value(digits: &[u8]) -> Option<u64>
     requires { all_digits digits.now ≡ true }
     ensures { SomeIff result (decimal_of 0 digits.now < 2 ^ 64) (decimal_of 0 digits.now) }
 {
-    let mut number: u64 = 0;
-    let mut rest = digits;
-    while let [digit, more @ ..] = rest {
-        let Some(longer) = with_digit(number, *digit) else {
-            return None;
-        };
-        number = longer;
-        rest = more;
+    let mut number = 0;
+    for digit in digits {
+        number = with_digit(number, *digit)?;
     }
     Some(number)
 }
@@ -57,8 +45,5 @@ pub fn number(word: &[u8]) -> Result<u64, NumberError>
     if word.is_empty() || !all_digits(word) {
         return Err(NumberError::NotANumber);
     }
-    match value(word) {
-        Some(number) => Ok(number),
-        None => Err(NumberError::TooLarge),
-    }
+    value(word).ok_or(NumberError::TooLarge)
 }

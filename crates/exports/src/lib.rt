@@ -7,13 +7,14 @@ ghost use Rattle.check_field.specs.CheckField.{check_field};
 ghost use Rattle.request.specs.Request.{request_of};
 ghost use Rattle.exports.specs.Exports.{check_of};
 
+use packet::Failure;
 use request::read::read_request;
 
 /// The code of a request that passes; no failure has it.
 pub const PASSED: u16 = 65535;
 
 /// What the request check answers: a failure's code with its A and B, or
-/// `PASSED` with zeros.
+/// `PASSED` with zeros. A `Failure` in the layout that C reads.
 #[repr(C)]
 #[derive(Clone, Copy)]
 pub struct RequestCheck {
@@ -36,19 +37,13 @@ pub extern "C" fn melonskeg_check_field(octets: &[u8]) -> u16
 pub extern "C" fn melonskeg_request_check(octets: &[u8]) -> RequestCheck
     ensures { result ≡ check_of (request_of octets.now) }
 {
-    match read_request(octets) {
-        Ok(_) => RequestCheck {
+    let Failure { code, a, b } = match read_request(octets) {
+        Ok(_) => Failure {
             code: PASSED,
             a: 0,
             b: 0,
         },
-        Err(rejection) => {
-            let failure = rejection.failure();
-            RequestCheck {
-                code: failure.code,
-                a: failure.a,
-                b: failure.b,
-            }
-        }
-    }
+        Err(rejection) => Failure::from(rejection),
+    };
+    RequestCheck { code, a, b }
 }

@@ -7,13 +7,11 @@ use Rattle.service.specs.declared.answer.Refusal.TheVariants.{TimeBeyondRange, C
 use Rattle.service.specs.State.{State, count_after, counted, clocked, carried}
 use Rattle.service.specs.Requests.{Held, lacks_room, judged, too_short, accept_reports, whole_reports, whole_state, accept_answer, whole_answer, finish_reports, answered}
 use Rattle.history.specs.declared.call.Reply.{Reply}
-use Rattle.history.specs.declared.call.Reply.TheVariants.{NoSuchRequest}
 use Rattle.service.specs.declared.answer.Outcome.TheVariants.{Done}
-use Rattle.history.specs.Log.{Call, requests, accepts, completes, sets_clock, Entry, Log}
+use Rattle.history.specs.Log.{Call, requests, accepts, completes, sets_clock, Entry, Log, noted}
 use Rattle.history.specs.Session.{Machine, held_at, ended, whole_reply, accept_reply, accept_held, finish_reply, clock_reply, complete_reply, complete_state, complete_held, step_reply, step_area, step_state, step_held, step_machine, Steps}
-use Rattle.history.specs.Meaning.{if_done, if_accepted, if_answered, if_set, held_by, asked_of, subschedules_by, apids_by, finished_by, clock_of, still_accepted, enabled_subschedule, enabled_apid, given, reports_given, state_of}
+use Rattle.history.specs.Meaning.{if_done, if_accepted, if_answered, if_set, held_by, asked_of, subschedules_by, apids_by, finished_by, clock_of, still_accepted, given, reports_given, state_of}
 use Rattle.history.specs.Promise.{after_all, Lawful, History}
-use Rattle.history.specs.Agrees.{noted}
 use Rattle.history.proofs.Laws.{one_more, clock_rises, reports_numbered}
 
 -- sequence counts go round at 16384
@@ -50,30 +48,32 @@ module _ (s : State) (p : List ℕ) where
   accept_held_kept false (Ok t) = refl
   accept_held_kept false (Err e) = refl
 
-  -- a completion, by whether the area is too short and what is held
-  abbrev reply_with : Bool → Option Held → Reply
-  reply_with b None = NoSuchRequest
-  reply_with b (Some h) = finish_reply (cond b (Err h) (Ok (answered s (finish_reports s.subschedules s.apids h) (Done 0))))
+module _ (s : State) where
+  -- a completion of what is held, by whether the area is too short
+  finish_state_kept : (h : Held) (b : Bool) →
+      cond b s (counted (carried s h.asked) (finish_reports s.subschedules s.apids h))
+      ≡ after s (if_answered (finish_reply (cond b (Err h) (Ok (answered s (finish_reports s.subschedules s.apids h) (Done 0))))) (finish_reports s.subschedules s.apids h) [])
+      (subschedules_by (if_done (finish_reply (cond b (Err h) (Ok (answered s (finish_reports s.subschedules s.apids h) (Done 0))))) (Some h.asked) None) s.subschedules)
+      (apids_by (if_done (finish_reply (cond b (Err h) (Ok (answered s (finish_reports s.subschedules s.apids h) (Done 0))))) (Some h.asked) None) s.apids)
+  finish_state_kept h true = refl
+  finish_state_kept h false = refl
 
-  abbrev complete_with : Bool → Option Held → State
-  complete_with b None = s
-  complete_with b (Some h) = cond b s (counted (carried s h.asked) (finish_reports s.subschedules s.apids h))
+  finish_held_kept : (h : Held) (b : Bool) (xs ys : List (Option Held)) →
+      cond b xs ys ≡ if_done (finish_reply (cond b (Err h) (Ok (answered s (finish_reports s.subschedules s.apids h) (Done 0))))) ys xs
+  finish_held_kept h true xs ys = refl
+  finish_held_kept h false xs ys = refl
 
-  abbrev held_with : Bool → Option Held → ℕ → List (Option Held) → List (Option Held)
-  held_with b None k xs = xs
-  held_with b (Some h) k xs = cond b xs (ended k xs)
+  complete_state_kept : (o : Option Held) (area : List ℕ) →
+      complete_state s o area
+      ≡ after s (if_answered (complete_reply s o area) (finished_by s.subschedules s.apids o) [])
+      (subschedules_by (if_done (complete_reply s o area) (asked_of o) None) s.subschedules) (apids_by (if_done (complete_reply s o area) (asked_of o) None) s.apids)
+  complete_state_kept None area = refl
+  complete_state_kept (Some h) area = finish_state_kept h (too_short area)
 
-  complete_state_kept : (b : Bool) (o : Option Held) →
-      complete_with b o
-      ≡ after s (if_answered (reply_with b o) (finished_by s.subschedules s.apids o) []) (subschedules_by (if_done (reply_with b o) (asked_of o) None) s.subschedules) (apids_by (if_done (reply_with b o) (asked_of o) None) s.apids)
-  complete_state_kept b None = refl
-  complete_state_kept true (Some h) = refl
-  complete_state_kept false (Some h) = refl
-
-  complete_held_kept : (b : Bool) (o : Option Held) (k : ℕ) (xs : List (Option Held)) → held_with b o k xs ≡ if_done (reply_with b o) (ended k xs) xs
-  complete_held_kept b None k xs = refl
-  complete_held_kept true (Some h) k xs = refl
-  complete_held_kept false (Some h) k xs = refl
+  complete_held_kept : (o : Option Held) (k : ℕ) (area : List ℕ) (xs : List (Option Held)) →
+      complete_held k o area xs ≡ if_done (complete_reply s o area) (ended k xs) xs
+  complete_held_kept None k area xs = refl
+  complete_held_kept (Some h) k area xs = finish_held_kept h (too_short area) xs (ended k xs)
 
   clock_state : (t : ℕ) (b d : Bool) →
       cond b (cond d s (clocked s t)) s
@@ -104,37 +104,13 @@ module _ (h : Log) where
   pub state_kept : (c : Call) (area : List ℕ) → step_state (after_all h) c area ≡ state_of (entry c area ∷ h)
   state_kept (requests p) area = whole_state_kept s₀ p (too_short area) (request_of p) ∙ counts (entry (requests p) area) _ _ _
   state_kept (accepts p) area = accept_state_kept s₀ p (too_short area) (request_of p) ∙ counts (entry (accepts p) area) _ _ _
-  state_kept (completes k) area =
-      by_held (held_at k (still_accepted h))
-      ∙ complete_state_kept s₀ [] (too_short area) (held_at k (still_accepted h))
-      ∙ ap (λ (r : Reply). record { clock = clock_of h; count = count_after (reports_given h % 16384) (if_answered r (finished_by (enabled_subschedule h) (enabled_apid h) (held_at k (still_accepted h))) []); subschedules = subschedules_by (if_done r (asked_of (held_at k (still_accepted h))) None) (enabled_subschedule h); apids = apids_by (if_done r (asked_of (held_at k (still_accepted h))) None) (enabled_apid h) })
-      (reply_by (held_at k (still_accepted h)))
-      ∙ counts (entry (completes k) area) _ _ _
-    where
-      by_held : (o : Option Held) → complete_state s₀ o area ≡ complete_with s₀ [] (too_short area) o
-      by_held None = refl
-      by_held (Some x) = refl
-
-      reply_by : (o : Option Held) → reply_with s₀ [] (too_short area) o ≡ complete_reply s₀ o area
-      reply_by None = refl
-      reply_by (Some x) = refl
-  state_kept (sets_clock t) area = clock_state s₀ [] t (ltb t (2 ^ 48)) (ltb t (clock_of h)) ∙ counts (entry (sets_clock t) area) _ _ _
+  state_kept (completes k) area = complete_state_kept s₀ (held_at k (still_accepted h)) area ∙ counts (entry (completes k) area) _ _ _
+  state_kept (sets_clock t) area = clock_state s₀ t (ltb t (2 ^ 48)) (ltb t (clock_of h)) ∙ counts (entry (sets_clock t) area) _ _ _
 
   pub held_kept : (c : Call) (area : List ℕ) → step_held (after_all h) c area ≡ still_accepted (entry c area ∷ h)
   held_kept (requests p) area = refl
   held_kept (accepts p) area = ap (λ (o : Option Held). still_accepted h ++ o ∷ []) (accept_held_kept s₀ p (too_short area) (request_of p))
-  held_kept (completes k) area =
-      by_held (held_at k (still_accepted h))
-      ∙ complete_held_kept s₀ [] (too_short area) (held_at k (still_accepted h)) k (still_accepted h)
-      ∙ ap (λ (r : Reply). if_done r (ended k (still_accepted h)) (still_accepted h)) (reply_by (held_at k (still_accepted h)))
-    where
-      by_held : (o : Option Held) → complete_held k o area (still_accepted h) ≡ held_with s₀ [] (too_short area) o k (still_accepted h)
-      by_held None = refl
-      by_held (Some x) = refl
-
-      reply_by : (o : Option Held) → reply_with s₀ [] (too_short area) o ≡ complete_reply s₀ o area
-      reply_by None = refl
-      reply_by (Some x) = refl
+  held_kept (completes k) area = complete_held_kept s₀ (held_at k (still_accepted h)) k area (still_accepted h)
   held_kept (sets_clock t) area = refl
 
   pub kept : (c : Call) (area : List ℕ) → Lawful h → History (entry c area ∷ h) (step_machine (after_all h) c area)

@@ -2,4 +2,3 @@ pub mod Log
 pub mod Session
 pub mod Meaning
 pub mod Promise
-pub mod Agrees

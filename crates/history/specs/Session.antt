@@ -60,10 +60,15 @@ abbrev pub clock_reply : Result (Unit {0}) Refusal → Reply
 clock_reply (Ok u) = ClockSet
 clock_reply (Err r) = Refused r
 
--- whether a request can be completed: there is none, or the area is too short for it
-abbrev pub can_complete : Option Held → Bool → Result (Unit {0}) Reply
+-- the request that can be completed: there is none, or the area is too short for it
+abbrev pub can_complete : Option Held → Bool → Result Held Reply
 can_complete None short = Err NoSuchRequest
-can_complete (Some h) short = cond short (Err (Refused AreaTooShort)) (Ok tt)
+can_complete (Some h) short = cond short (Err (Refused AreaTooShort)) (Ok h)
+
+-- a request taken out, without references
+abbrev pub taken : Result Accepted Reply → Result Held Reply
+taken (Ok a) = Ok (held_in a)
+taken (Err r) = Err r
 
 -- the reply to each call
 abbrev pub complete_reply : State → Option Held → List ℕ → Reply

@@ -1,14 +1,15 @@
-ghost use Rattle.std.specs.Prelude.{◌≡◌, ℕ, ◌+◌, ◌<◌, ◌≤◌, ◌&&◌, List, reverse, length, drop, is_ok, vec_len, vec_capacity, MatchResult, OnOk, ◌==◌, nat_le};
-ghost use Rattle.service.specs.State.{view};
-ghost use Rattle.service.specs.Requests.{too_short};
-ghost use Rattle.history.specs.Log.{requests, accepts, completes, sets_clock, call_in, area_in, entries_of};
-ghost use Rattle.history.specs.Session.{machine_of, held_slot, held_slots, held_at, ended, can_complete, left_over, end_area, Steps};
+ghost use Rattle.std.specs.Prelude.{◌≡◌, ℕ, ◌+◌, ◌<◌, ◌≤◌, ◌&&◌, List, map, reverse, length, All, is_ok, IsSome, OnOk, vec_len, vec_capacity, MatchResult, ◌==◌, nat_le};
+ghost use Rattle.service.specs.State.{view, counted};
+ghost use Rattle.service.specs.Reports.{area_after};
+ghost use Rattle.service.specs.Requests.{too_short, accepting, accept_reports, accept_answer};
+ghost use Rattle.history.specs.Log.{completes, call_in, call_of, entries_of};
+ghost use Rattle.history.specs.Session.{machine_of, accept_reply, accept_held, held_slot, held_slots, held_at, can_complete, taken, complete_held, left_over, end_area, Steps};
 ghost use Rattle.history.specs.Promise.{History};
 
-use crate::call::{Call, Note, Reply};
+use crate::call::{Call, Entry, Reply};
 use service::answer::Refusal;
 use service::service::Service;
-use service::states::{Acceptance, Accepted, Received};
+use service::states::{Acceptance, Accepted, Asking, Received};
 
 /// A service together with the requests that it has accepted: the one of each
 /// acceptance asked for, where it is still accepted.
@@ -17,103 +18,76 @@ pub struct Session<'a> {
     accepted: Vec<Option<Accepted<'a>>>,
 }
 
-// Whether the request of that acceptance can be completed over the area now.
-fn can_complete(slots: &[Option<Accepted>], number: usize, area: &[u8]) -> Result<(), Reply>
-    ensures value { result ≡ can_complete (held_at number (held_slots slots.now)) (too_short area.now) }
-    ensures within { OnOk result ((1 ≤ number) × (number ≤ length slots.now)) }
+// Asks for an acceptance: the request, where it was accepted, and the reply.
+fn accept<'a>(
+    service: &mut Service,
+    octets: &'a [u8],
+    area: &mut [u8],
+) -> (Option<Accepted<'a>>, Reply)
+    ensures held { held_slot result.0 ≡ accept_held (accept_answer (view service.old) octets.now (accepting octets.now area.old)) }
+    ensures reply { result.1 ≡ accept_reply (accept_answer (view service.old) octets.now (accepting octets.now area.old)) }
+    ensures area { area.new ≡ area_after (view service.old) (accept_reports octets.now (accepting octets.now area.old)) area.old }
+    ensures state { view service.new ≡ counted (view service.old) (accept_reports octets.now (accepting octets.now area.old)) }
 {
-    if number == 0 || number > slots.len() {
-        return Err(Reply::NoSuchRequest);
-    }
-    let Some(request) = &slots[number - 1] else {
-        return Err(Reply::NoSuchRequest);
-    };
-    match request.room(area) {
-        Ok(()) => Ok(()),
-        Err(refusal) => Err(Reply::Refused(refusal)),
+    match service.accept(Received::new(octets), area) {
+        Ok(Acceptance { answer, accepted }) => (accepted, Reply::Answered(answer)),
+        Err(_received) => (None, Refusal::AreaTooShort.into()),
     }
 }
 
-// Takes the request of that acceptance out of its slot, which is then empty.
-fn take_out<'a>(slots: &mut Vec<Option<Accepted<'a>>>, number: usize) -> Option<Accepted<'a>>
-    requires { (vec_len slots.old < vec_capacity slots.old) × ((1 ≤ number) × (number ≤ vec_len slots.old)) }
-    ensures value { held_slot result ≡ held_at number (held_slots slots.old.items) }
-    ensures left { held_slots slots.new.items ≡ ended number (held_slots slots.old.items) }
-    ensures kept { (vec_len slots.new ≡ vec_len slots.old) × (vec_capacity slots.new ≡ vec_capacity slots.old) }
+// Takes out the request of that acceptance, where it is still accepted and the area has room.
+#[tactic(auto, using(crate::proofs::Moves::places))]
+fn take<'a>(
+    accepted: &mut [Option<Accepted<'a>>],
+    number: usize,
+    area: &[u8],
+) -> Result<Accepted<'a>, Reply>
+    ensures value { taken result ≡ can_complete (held_at number (held_slots accepted.old)) (too_short area.now) }
+    ensures left { held_slots accepted.new ≡ complete_held number (held_at number (held_slots accepted.old)) area.now (held_slots accepted.old) }
 {
-    slots.push_reserved(None);
-    slots.swap_remove(number - 1)
+    if number == 0 || number > accepted.len() {
+        return Err(Reply::NoSuchRequest);
+    }
+    // by index: after `get_mut` of a slice a proof knows nothing of its elements
+    let slot = &mut accepted[number - 1];
+    let Some(request) = slot else {
+        return Err(Reply::NoSuchRequest);
+    };
+    request.room(area)?;
+    slot.take().ok_or(Reply::NoSuchRequest)
 }
 
 impl<'a> Session<'a> {
-    fn request(&mut self, octets: &[u8], area: &mut [u8]) -> Reply
-        ensures steps { Steps (machine_of self.old) (requests octets.now) area.old (machine_of self.new) result area.new }
-        ensures kept { (vec_len self.new.accepted ≡ vec_len self.old.accepted) × (vec_capacity self.new.accepted ≡ vec_capacity self.old.accepted) }
-    {
-        match self.service.request(octets, area) {
-            Ok(answer) => Reply::Answered(answer),
-            Err(refusal) => Reply::Refused(refusal),
-        }
-    }
-
-    fn accept(&mut self, octets: &'a [u8], area: &mut [u8]) -> Reply
-        requires { vec_len self.old.accepted < vec_capacity self.old.accepted }
-        ensures steps { Steps (machine_of self.old) (accepts octets.now) area.old (machine_of self.new) result area.new }
-        ensures kept { (vec_len self.new.accepted ≡ vec_len self.old.accepted + 1) × (vec_capacity self.new.accepted ≡ vec_capacity self.old.accepted) }
-    {
-        match self.service.accept(Received::new(octets), area) {
-            Acceptance::Accepted(request, answer) => {
-                self.accepted.push_reserved(Some(request));
-                Reply::Answered(answer)
-            }
-            Acceptance::Rejected(answer) => {
-                self.accepted.push_reserved(None);
-                Reply::Answered(answer)
-            }
-            Acceptance::ShortArea(_) => {
-                self.accepted.push_reserved(None);
-                Reply::Refused(Refusal::AreaTooShort)
-            }
-        }
-    }
-
-    fn set_clock(&mut self, time: u64) -> Reply
-        ensures steps { (area : List ℕ) → Steps (machine_of self.old) (sets_clock time) area (machine_of self.new) result area }
-        ensures kept { (vec_len self.new.accepted ≡ vec_len self.old.accepted) × (vec_capacity self.new.accepted ≡ vec_capacity self.old.accepted) }
-    {
-        match self.service.set_clock(time) {
-            Ok(()) => Reply::ClockSet,
-            Err(refusal) => Reply::Refused(refusal),
-        }
-    }
-
     fn complete(&mut self, number: usize, area: &mut [u8]) -> Reply
-        requires { vec_len self.old.accepted < vec_capacity self.old.accepted }
         ensures steps { Steps (machine_of self.old) (completes number) area.old (machine_of self.new) result area.new }
         ensures kept { (vec_len self.new.accepted ≡ vec_len self.old.accepted) × (vec_capacity self.new.accepted ≡ vec_capacity self.old.accepted) }
     {
-        if let Err(reply) = can_complete(self.accepted.as_slice(), number, area) {
-            return reply;
-        }
-        match take_out(&mut self.accepted, number) {
-            Some(request) => match self.service.complete(request, area) {
-                Ok(completed) => Reply::Answered(completed.answer()),
-                Err(_request) => unreachable(),
-            },
-            None => Reply::NoSuchRequest,
+        let request = match take(self.accepted.as_mut_slice(), number, area) {
+            Ok(request) => request,
+            Err(reply) => return reply,
+        };
+        match self.service.complete(request, area) {
+            Ok(completed) => Reply::Answered(completed.answer()),
+            // there was room
+            Err(_request) => unreachable(),
         }
     }
 
-    fn step(&mut self, call: Call<'a>, area: &mut [u8]) -> Reply
+    // Makes a call over an area.
+    fn step(&mut self, call: Call<&'a [u8]>, area: &mut [u8]) -> Reply
         requires { vec_len self.old.accepted < vec_capacity self.old.accepted }
         ensures steps { Steps (machine_of self.old) (call_in call.entry) area.old (machine_of self.new) result area.new }
         ensures kept { (vec_len self.new.accepted ≤ vec_len self.old.accepted + 1) × (vec_capacity self.new.accepted ≡ vec_capacity self.old.accepted) }
     {
         match call {
-            Call::Request(octets) => self.request(octets, area),
-            Call::Accept(octets) => self.accept(octets, area),
+            Call::Request(octets) => self.service.request(octets, area).into(),
+            Call::Accept(octets) => {
+                let (request, reply) = accept(&mut self.service, octets, area);
+                self.accepted.push_reserved(request);
+                reply
+            }
             Call::Complete(number) => self.complete(number, area),
-            Call::SetClock(time) => self.set_clock(time),
+            Call::SetClock(time) => self.service.set_clock(time).into(),
         }
     }
 }
@@ -143,38 +117,27 @@ impl Session<'_> {
     }
 }
 
-// Makes one call over the area of its note, and notes the reply.
-fn make_call<'a>(session: &mut Session<'a>, call: Call<'a>, note: &mut Note)
-    requires { vec_len session.old.accepted < vec_capacity session.old.accepted }
-    ensures steps { Steps (machine_of session.old) (call_in call.entry) (area_in note.old) (machine_of session.new) note.new.reply (area_in note.new) }
-    ensures kept { (vec_len session.new.accepted ≤ vec_len session.old.accepted + 1) × (vec_capacity session.new.accepted ≡ vec_capacity session.old.accepted) }
-{
-    note.reply = session.step(call, note.area.as_mut_slice());
-}
-
-/// Makes every call on a new service, each over the area of its note, and notes each reply.
-/// Calls without a note are not made. `places` is to be empty and to have room for as many
-/// requests as there are calls; otherwise it comes back, nothing is run and nothing changes.
+/// Makes the call of every entry on a new service, each over the area of its entry, and notes
+/// its reply there. `places` is to be empty and to have room for as many requests as there are
+/// entries; otherwise it comes back, nothing is run and nothing changes.
 pub fn run<'a>(
     places: Vec<Option<Accepted<'a>>>,
-    calls: &[Call<'a>],
-    notes: &mut [Note],
+    entries: &mut [Entry<'a>],
 ) -> Result<Session<'a>, Vec<Option<Accepted<'a>>>>
-    ensures test { is_ok result ≡ (vec_len places.entry == 0 && nat_le (length calls.now) (vec_capacity places.entry)) }
-    ensures history { MatchResult result (λ s. History (reverse (entries_of calls.now notes.old notes.new)) (machine_of s)) (λ p. (p ≡ places.entry) × (notes.new ≡ notes.old)) }
-    ensures spare { drop (length calls.now) notes.new ≡ drop (length calls.now) notes.old }
+    ensures test { is_ok result ≡ (vec_len places.entry == 0 && nat_le (length entries.old) (vec_capacity places.entry)) }
+    ensures history { MatchResult result (λ s. History (reverse (entries_of entries.old entries.new)) (machine_of s)) (λ p. (p ≡ places.entry) × (entries.new ≡ entries.old)) }
+    ensures made { OnOk result (All (λ e. IsSome e.reply) entries.new) }
+    ensures calls { map call_of entries.new ≡ map call_of entries.old }
 {
-    if places.len() != 0 || places.capacity() < calls.len() {
+    if !places.is_empty() || places.capacity() < entries.len() {
         return Err(places);
     }
     let mut session = Session {
         service: Service::new(),
         accepted: places,
     };
-    for i in 0..calls.len() {
-        if i < notes.len() {
-            make_call(&mut session, calls[i], &mut notes[i]);
-        }
+    for entry in entries.iter_mut() {
+        entry.reply = Some(session.step(entry.call, entry.area.as_mut_slice()));
     }
     Ok(session)
 }

@@ -1,2 +1,1 @@
-pub mod Body
 pub mod Octets

@@ -5,6 +5,7 @@ use Rattle.packet.specs.declared.Role.{Role}
 use Rattle.packet.specs.declared.Role.TheVariants.{Request, Command}
 use Rattle.packet.specs.declared.Fault.{Fault}
 use Rattle.packet.specs.declared.Fault.TheVariants.{Length, CheckField, Header, DataHeader}
+use Rattle.packet.specs.declared.Failure.{Failure}
 use Rattle.packet.specs.declared.Packet.{Packet}
 use Rattle.packet.specs.Octets.{word_at}
 
@@ -37,6 +38,9 @@ fault_b (Length n field) = field
 fault_b (CheckField received computed) = computed
 fault_b (Header first second) = second
 fault_b (DataHeader first second) = second
+
+abbrev pub fault_failure : Fault → Failure
+fault_failure f = record { code = fault_code f; a = fault_a f; b = fault_b f }
 
 -- what a packet says, without references
 pub record Fields : Type 0 where

@@ -4,7 +4,7 @@
 
 ghost use Rattle.std.specs.Prelude.{◌≡◌, ℕ, ◌+◌, ◌-◌, ◌≤◌, cond, length, take, IfOk, Ok, Err};
 ghost use Rattle.packet.specs.Octets.{word_at};
-ghost use Rattle.packet.specs.Packet.{most_of, admits, fault_code, fault_a, fault_b, length_right, length_fault, received_of, computed_of, read_of, meant};
+ghost use Rattle.packet.specs.Packet.{most_of, admits, fault_failure, length_right, length_fault, read_of, meant};
 
 use check_field::check_field;
 
@@ -50,39 +50,25 @@ pub enum Fault {
     DataHeader { first: u16, second: u16 },
 }
 
-impl Fault {
-    /// The failure code that this fault earns.
-    pub fn code(self) -> u16
-        ensures { result ≡ fault_code self }
-    {
-        match self {
-            Fault::Length { .. } => 1,
-            Fault::CheckField { .. } => 2,
-            Fault::Header { .. } => 0,
-            Fault::DataHeader { .. } => 6,
-        }
-    }
+/// A failure as reports carry it: its code, and the two numbers A and B that say more of it.
+#[derive(Clone, Copy)]
+pub struct Failure {
+    pub code: u16,
+    pub a: u16,
+    pub b: u16,
+}
 
-    /// The first number that says more of it, A.
-    pub fn a(self) -> u16
-        ensures { result ≡ fault_a self }
-    {
-        match self {
-            Fault::Length { octets, .. } => octets,
-            Fault::CheckField { received, .. } => received,
-            Fault::Header { first, .. } | Fault::DataHeader { first, .. } => first,
-        }
-    }
+impl From<Fault> for Failure {
+    ghost from_gives = { λ fault r. r ≡ fault_failure fault };
 
-    /// The second number that says more of it, B.
-    pub fn b(self) -> u16
-        ensures { result ≡ fault_b self }
-    {
-        match self {
-            Fault::Length { field, .. } => field,
-            Fault::CheckField { computed, .. } => computed,
-            Fault::Header { second, .. } | Fault::DataHeader { second, .. } => second,
-        }
+    fn from(fault: Fault) -> Failure {
+        let (code, a, b) = match fault {
+            Fault::Length { octets, field } => (1, octets, field),
+            Fault::CheckField { received, computed } => (2, received, computed),
+            Fault::Header { first, second } => (0, first, second),
+            Fault::DataHeader { first, second } => (6, first, second),
+        };
+        Failure { code, a, b }
     }
 }
 
@@ -122,31 +108,6 @@ fn length_is_right(octets: &[u8], role: Role) -> bool
     n <= role.most() && n % 2 == 0 && field as usize + 7 == n
 }
 
-// The octets before the check field, and the check field as it came.
-fn received(octets: &[u8]) -> u16
-    requires { 12 ≤ length octets.now }
-    ensures { result ≡ received_of octets.now }
-{
-    let n = octets.len();
-    u16::from_be_bytes([octets[n - 2], octets[n - 1]])
-}
-
-fn computed(octets: &[u8]) -> u16
-    requires { 12 ≤ length octets.now }
-    ensures { result ≡ computed_of octets.now }
-{
-    check_field(&octets[0..octets.len() - 2])
-}
-
-// The application data, between the data header and the check field.
-fn body_of(rest: &[u8]) -> &[u8]
-    requires { 2 ≤ length rest.now }
-    ensures { result.now ≡ take (length rest.now - 2) rest.now }
-{
-    let n = rest.len() - 2;
-    &rest[0..n]
-}
-
 /// Reads a packet, or says the first thing that is wrong with it: length,
 /// check field, header, data header, in this order.
 pub fn read<'a>(octets: &'a [u8], role: Role) -> Result<Packet<'a>, Fault>
@@ -156,11 +117,26 @@ pub fn read<'a>(octets: &'a [u8], role: Role) -> Result<Packet<'a>, Fault>
     if !length_is_right(octets, role) {
         return Err(length_fault(octets));
     }
-    let [o0, o1, o2, o3, _, _, o6, service, subtype, o9, rest @ ..] = octets else {
+    let [
+        o0,
+        o1,
+        o2,
+        o3,
+        _,
+        _,
+        o6,
+        service,
+        subtype,
+        o9,
+        body @ ..,
+        hi,
+        lo,
+    ] = octets
+    else {
         return Err(length_fault(octets));
     };
-    let received = received(octets);
-    let computed = computed(octets);
+    let received = u16::from_be_bytes([*hi, *lo]);
+    let computed = check_field(&octets[..octets.len() - 2]);
     if received != computed {
         return Err(Fault::CheckField { received, computed });
     }
@@ -181,6 +157,6 @@ pub fn read<'a>(octets: &'a [u8], role: Role) -> Result<Packet<'a>, Fault>
         ack: *o6 % 16,
         service: *service,
         subtype: *subtype,
-        body: body_of(rest),
+        body,
     })
 }

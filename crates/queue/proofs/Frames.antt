@@ -1,7 +1,9 @@
 -- Packets behind their lengths, one after another: laid down, and read again
-use Rattle.std.proofs.Common.{◌≡◌, ℕ, zero, suc, ◌+◌, ◌*◌, ◌/◌, ◌%◌, ◌≤◌, Bool, true, false, cond, List, [], ◌∷◌, ◌++◌, length, take, drop, sym, refl, ap, ◌∙◌, append_assoc, append-nil, arith, length-append, length-take-le, take_at, drop_at}
+use Rattle.std.proofs.Common.{◌≡◌, ℕ, zero, suc, ◌+◌, ◌*◌, ◌/◌, ◌%◌, ◌≤◌, List, [], ◌∷◌, ◌++◌, length, take, drop, sym, refl, ap, ◌∙◌, append_assoc, append-nil, arith, length-append, length-drop, drop-drop, length-take-le, take_at, drop_at}
+use Rattle.std.specs.List.{sum_by}
+use Rattle.std.proofs.lemmas.List.Concat.{flat_map-append, length-flat_map}
 use Rattle.queue.specs.Ring.{framed, encode, parse, waits, put_at}
-use Rattle.queue.specs.Rules.{spent, every}
+use Rattle.queue.specs.Rules.{spent}
 
 -- what was laid down is read again
 pub parse-encode : (ws : List (List ℕ)) (k : ℕ) → length (encode ws) ≤ k → parse k (encode ws) ≡ ws
@@ -16,52 +18,60 @@ parse-encode (p ∷ ps) (suc k) h =
     let i = parse-encode ps k (omega arith) in
     cc
 
-pub encode_snoc : (ws : List (List ℕ)) (p : List ℕ) → encode (ws ++ p ∷ []) ≡ encode ws ++ framed p
-encode_snoc [] p = simp append-nil
-encode_snoc (w ∷ ws) p =
-    let i = encode_snoc ws p in let a = append_assoc w (encode ws) (framed p) in cc
+length-framed : (p : List ℕ) → length (framed p) ≡ 2 + length p
+length-framed p = omega arith
 
-pub every_snoc : (f : List ℕ → Bool) (ws : List (List ℕ)) (p : List ℕ) → every f ws ≡ true → f p ≡ true → every f (ws ++ p ∷ []) ≡ true
-every_snoc f [] p e h = simp h
-every_snoc f (w ∷ ws) p e h = split (λ e. every_snoc f ws p e h) (f w) refl e
-  where
-    split : (every f ws ≡ true → every f (ws ++ p ∷ []) ≡ true) → (b : Bool) → f w ≡ b → cond b (every f ws) false ≡ true → cond (f w) (every f (ws ++ p ∷ [])) false ≡ true
-    split rec true g e = simp g (rec e)
-    split rec false g e = let z : ◌≡◌ {A = ℕ} 0 1 = cc in absurd (omega arith)
+-- the waiting packets take up the used octets
+pub spent_used : (m : List ℕ) (u : ℕ) → u ≤ length m → encode (waits m u) ≡ take u m → spent (waits m u) ≡ u
+spent_used m u h x =
+    let ws = waits m u in
+    let e : spent ws ≡ sum_by (λ p. length (framed p)) ws = λ i. sum_by (λ p. sym (length-framed p) i) ws in
+    e ∙ sym (length-flat_map framed ws) ∙ ap length x ∙ length-take-le u m h
 
--- the used part after a packet is laid down
-pub used_part : (m p : List ℕ) (u : ℕ) → u + (2 + length p) ≤ length m → take (u + (2 + length p)) (put_at m u p) ≡ take u m ++ framed p
-used_part m p u h =
-    let w : u ≤ length m = omega arith in
-    let l1 = length-take-le u m w in
-    let l2 = length-append (take u m) (framed p) in
-    let a : take u m ++ (framed p ++ drop (u + (2 + length p)) m) ≡ (take u m ++ framed p) ++ drop (u + (2 + length p)) m = sym (append_assoc (take u m) (framed p) (drop (u + (2 + length p)) m)) in
-    let n : length (take u m ++ framed p) ≡ u + (2 + length p) = omega arith in
-    ap (λ (xs : List ℕ). take (u + (2 + length p)) xs) a ∙ take_at (take u m ++ framed p) (drop (u + (2 + length p)) m) (u + (2 + length p)) n
+-- a header written behind the used octets, and a packet behind it
+pub laid_down : (m h p n k : List ℕ) (u : ℕ) → u + (2 + length p) ≤ length m → h ≡ length p / 256 ∷ length p % 256 ∷ [] →
+    n ≡ take u m ++ (h ++ drop (u + length h) m) → k ≡ take (u + 2) n ++ (p ++ drop (u + 2 + length p) n) → k ≡ put_at m u p
+laid_down m h p n k u l eh en ek =
+    let two : length h ≡ 2 = ap length eh in
+    let lt = length-take-le u m (omega arith) in
+    let lf = length-append (take u m) h in
+    let a = append_assoc (take u m) h (drop (u + length h) m) in
+    let b : n ≡ (take u m ++ h) ++ drop (u + length h) m = en ∙ sym a in
+    let t : take (u + 2) n ≡ take u m ++ h = ap (take (u + 2)) b ∙ take_at (take u m ++ h) (drop (u + length h) m) (u + 2) (omega arith) in
+    let d : drop (u + 2) n ≡ drop (u + length h) m = ap (drop (u + 2)) b ∙ drop_at (take u m ++ h) (drop (u + length h) m) (u + 2) (omega arith) in
+    let e1 = drop-drop (length p) (u + 2) n in
+    let e2 = drop-drop (length p) (u + length h) m in
+    let i : u + length h + length p ≡ u + (2 + length p) = omega arith in
+    let c = append_assoc (take u m) h (p ++ drop (u + (2 + length p)) m) in
+    cc
 
-pub grown : (m p : List ℕ) (u : ℕ) → encode (waits m u) ≡ take u m → u + (2 + length p) ≤ length m →
-    waits (put_at m u p) (u + (2 + length p)) ≡ waits m u ++ p ∷ []
-unfolding waits
-grown m p u x h =
-    let s = encode_snoc (waits m u) p in
-    let t = used_part m p u h in
-    let e : take (u + (2 + length p)) (put_at m u p) ≡ encode (waits m u ++ p ∷ []) = cc in
-    let w : u ≤ length m = omega arith in
-    let l1 = length-take-le u m w in
-    let l2 = length-append (take u m) (framed p) in
-    let l3 : length (encode (waits m u ++ p ∷ [])) ≡ length (take u m ++ framed p) = sym (ap length e) ∙ ap length t in
-    ap (λ (xs : List ℕ). parse (u + (2 + length p)) xs) e ∙ parse-encode (waits m u ++ p ∷ []) (u + (2 + length p)) (omega arith)
+module _ (m p n : List ℕ) (u : ℕ) (h : u + (2 + length p) ≤ length m) (is : n ≡ put_at m u p) where
+  lt : length (take u m) ≡ u
+  lt = length-take-le u m (omega arith)
 
-pub exact_again : (m p : List ℕ) (u : ℕ) → encode (waits m u) ≡ take u m → u + (2 + length p) ≤ length m →
-    encode (waits (put_at m u p) (u + (2 + length p))) ≡ take (u + (2 + length p)) (put_at m u p)
-exact_again m p u x h =
-    let g = grown m p u x h in let s = encode_snoc (waits m u) p in let t = used_part m p u h in cc
+  lf : length (take u m ++ framed p) ≡ u + (2 + length p)
+  lf = omega (arith, lt, length-append (take u m) (framed p))
 
--- how many octets packets take up
-pub length-encode : (ws : List (List ℕ)) → length (encode ws) ≡ spent ws
-length-encode [] = refl
-length-encode (w ∷ ws) = let i = length-encode ws in let l = length-append w (encode ws) in omega arith
+  split : n ≡ (take u m ++ framed p) ++ drop (u + (2 + length p)) m
+  split = is ∙ sym (append_assoc (take u m) (framed p) (drop (u + (2 + length p)) m))
 
--- they take up the used octets
-pub spent_used : (m : List ℕ) (u : ℕ) (ws : List (List ℕ)) → u ≤ length m → encode ws ≡ take u m → spent ws ≡ u
-spent_used m u ws h x = sym (length-encode ws) ∙ ap length x ∙ length-take-le u m h
+  pub length_put : length n ≡ length m
+  length_put = ap length split ∙ omega (arith, lf, length-append (take u m ++ framed p) (drop (u + (2 + length p)) m), length-drop (u + (2 + length p)) m)
+
+  used_part : encode (waits m u) ≡ take u m → take (u + (2 + length p)) n ≡ encode (waits m u ++ p ∷ [])
+  used_part x =
+      let s = flat_map-append framed (waits m u) (p ∷ []) in
+      let z = append-nil (framed p) in
+      let t = ap (take (u + (2 + length p))) split ∙ take_at (take u m ++ framed p) (drop (u + (2 + length p)) m) (u + (2 + length p)) lf in
+      cc
+
+  -- one packet more waits
+  pub grown : encode (waits m u) ≡ take u m → waits n (u + (2 + length p)) ≡ waits m u ++ p ∷ []
+  unfolding waits
+  grown x =
+      let e = used_part x in
+      let l = length-take-le (u + (2 + length p)) n (omega (arith, length_put)) in
+      ap (parse (u + (2 + length p))) e ∙ parse-encode (waits m u ++ p ∷ []) (u + (2 + length p)) (omega (arith, ap length e))
+
+  pub exact_again : encode (waits m u) ≡ take u m → encode (waits n (u + (2 + length p))) ≡ take (u + (2 + length p)) n
+  exact_again x = ap encode (grown x) ∙ sym (used_part x)

@@ -1,72 +1,40 @@
--- One offer: what the queue holds after it
-use Rattle.std.proofs.Common.{◌≡◌, ℕ, ◌+◌, ◌≤◌, Bool, true, false, leb, List, [], ◌∷◌, ◌++◌, length, sym, refl, ap, ◌∙◌, subst, arith, leb-true}
-use Rattle.destination.specs.Destination.{offered, waiting_after}
-use Rattle.destination.specs.declared.Offer.{Offer}
-use Rattle.destination.specs.declared.Offer.TheVariants.{Taken}
-use Rattle.queue.specs.Ring.{put_at}
-use Rattle.queue.specs.Rules.{carried, spaced}
-use Rattle.queue.specs.Store.{extent, ringed, lying, Sound}
+-- One offer: what it is answered, by the code's tests, and what the queue holds after it
+use Rattle.std.proofs.Common.{◌≡◌, ℕ, ◌+◌, ◌<◌, ◌≤◌, ◌/◌, ◌%◌, true, false, List, ◌∷◌, [], ◌++◌, length, take, drop, arith}
+use Rattle.std.proofs.lemmas.Bool.Decides.{nat_tests}
+use Rattle.std.proofs.lemmas.List.Folds.{list_all-append}
+use Rattle.std.specs.List.{list_all}
 use Rattle.queue.specs.declared.store.Queue.{Queue}
-use Rattle.queue.specs.declared.store.Store.{Store}
-use Rattle.queue.proofs.Rounds.{length-round}
-use Rattle.queue.proofs.Frames.{grown, exact_again, every_snoc, spent_used}
+use Rattle.queue.specs.Ring.{encode, waits}
+use Rattle.queue.specs.Rules.{carried}
+use Rattle.queue.specs.Queue.{waits_in, carried_by, space_in, cause_of}
+use Rattle.queue.proofs.Frames.{spent_used, laid_down, length_put, grown, exact_again}
 
-pub record Stepped (s n : Store) (p : List ℕ) (a b : Bool) : Type 0 where
-  pub waiting : lying n ≡ waiting_after a b (lying s) p
-  pub sound : Sound n
+module _ (q : Queue) (p : List ℕ) (least : 12 ≤ length p) (most : length p ≤ 228) (fits : 2 + length p ≤ length q.ring) where
+  pub is_carried : carried_by q p ≡ true
+  is_carried = grind (arith, nat_tests)
 
-pub sound : (q : Queue) → Sound q.inner
-sound q = record { within = q.within; place = q.place; exact = q.exact; fine = q.fine }
+  pub why_full : cause_of q p ≡ 1
+  why_full = grind (arith, nat_tests)
 
-kept : (s n : Store) → Sound s → n ≡ s → (lying n ≡ lying s) × Sound n
-kept s n h e = subst (λ (z : Store). (lying z ≡ lying s) × Sound z) (sym e) (refl, h)
+pub is_full : (q : Queue) (p : List ℕ) → length q.ring < q.used + (2 + length p) → space_in q p ≡ false
+is_full q p h = let s = spent_used q.ring q.used q.within q.exact in grind (arith, nat_tests)
 
-laid_behind : (s n : Store) (p : List ℕ) → Sound s → carried (extent s) p ≡ true → s.used + (2 + length p) ≤ extent s →
-    ringed n ≡ put_at (ringed s) s.used p → n.used ≡ s.used + (2 + length p) → n.start ≡ s.start → extent n ≡ extent s →
-    Stepped s n p true true
-laid_behind s n p i c h em eu es l =
-    let lt = length-round s.memory.now s.start i.place in
-    let k : s.used + (2 + length p) ≤ length (ringed s) = omega arith in
-    let g = grown (ringed s) p s.used i.exact k in
-    let x = exact_again (ringed s) p s.used i.exact k in
-    let q : lying n ≡ lying s ++ p ∷ [] = cc in
-    record {
-      waiting = q;
-      sound = record {
-        within = omega arith;
-        place = omega arith;
-        exact = cc;
-        fine = rw (l, q) (every_snoc (carried (extent s)) (lying s) p i.fine c);
-      };
-    }
+pub has_space : (q : Queue) (p : List ℕ) → q.used + (2 + length p) ≤ length q.ring → space_in q p ≡ true
+has_space q p h = let s = spent_used q.ring q.used q.within q.exact in grind (arith, nat_tests)
 
-pub step : (s n : Store) (p : List ℕ) (k : ℕ) (r : Offer) (a b : Bool) → carried (extent s) p ≡ a → leb (s.used + (2 + length p)) (extent s) ≡ b →
-    Sound s → r ≡ offered a b k → (r ≡ Taken → ringed n ≡ put_at (ringed s) s.used p) → (r ≡ Taken → n.used ≡ s.used + (2 + length p)) →
-    ((r ≡ Taken → ⊥) → n ≡ s) → n.start ≡ s.start → extent n ≡ extent s → Stepped s n p a b
-step s n p k r true true ca sb i e gm gu sm st l = laid_behind s n p i ca (leb-true _ _ sb) (gm e) (gu e) st l
-step s n p k r true false ca sb i e gm gu sm st l =
-    let no : r ≡ Taken → ⊥ = λ t. let z : ◌≡◌ {A = ℕ} 0 1 = cc in omega arith in
-    let z = kept s n i (sm no) in record { waiting = z.0; sound = z.1 }
-step s n p k r false b ca sb i e gm gu sm st l =
-    let no : r ≡ Taken → ⊥ = λ t. let z : ◌≡◌ {A = ℕ} 0 1 = cc in omega arith in
-    let z = kept s n i (sm no) in record { waiting = z.0; sound = z.1 }
+-- the octets m with a packet laid down behind those that are used, u of them now
+pub record Stepped (q : Queue) (m p : List ℕ) (u : ℕ) : Type 0 where
+  pub size : length m ≡ length q.ring
+  pub waiting : waits m u ≡ waits_in q ++ p ∷ []
+  pub exact : encode (waits m u) ≡ take u m
+  pub fine : list_all (carried (length m)) (waits m u) ≡ true
 
-pub no_never : (a b : Bool) (k : ℕ) (r : Offer) → r ≡ offered a b k → a ≡ false → r ≡ Taken → ⊥
-no_never true b k r e f t = let z : ◌≡◌ {A = ℕ} 0 1 = cc in omega arith
-no_never false b k r e f t = let z : ◌≡◌ {A = ℕ} 0 1 = cc in omega arith
-
-pub no_space : (a b : Bool) (k : ℕ) (r : Offer) → r ≡ offered a b k → b ≡ false → r ≡ Taken → ⊥
-no_space true true k r e f t = let z : ◌≡◌ {A = ℕ} 0 1 = cc in omega arith
-no_space true false k r e f t = let z : ◌≡◌ {A = ℕ} 0 1 = cc in omega arith
-no_space false b k r e f t = let z : ◌≡◌ {A = ℕ} 0 1 = cc in omega arith
-
--- there is space by the used octets where there is by the waiting packets
-pub space_is : (s : Store) (p : List ℕ) → Sound s → leb (s.used + (2 + length p)) (extent s) ≡ spaced (extent s) (lying s) p
-space_is s p i =
-    let lt = length-round s.memory.now s.start i.place in
-    let e = spent_used (ringed s) s.used (lying s) (omega arith) i.exact in
-    ap (λ (u : ℕ). leb (u + (2 + length p)) (extent s)) (sym e)
-
-pub answer_is : (s : Store) (p : List ℕ) (k : ℕ) (r : Offer) → Sound s →
-    r ≡ offered (carried (extent s) p) (leb (s.used + (2 + length p)) (extent s)) k → r ≡ offered (carried (extent s) p) (spaced (extent s) (lying s) p) k
-answer_is s p k r i e = e ∙ ap (λ (b : Bool). offered (carried (extent s) p) b k) (space_is s p i)
+pub stepped : (q : Queue) (header p n m : List ℕ) → carried_by q p ≡ true → q.used + (2 + length p) ≤ length q.ring → header ≡ length p / 256 ∷ length p % 256 ∷ [] →
+    n ≡ take q.used q.ring ++ (header ++ drop (q.used + length header) q.ring) → m ≡ take (q.used + 2) n ++ (p ++ drop (q.used + 2 + length p) n) → Stepped q m p (q.used + (2 + length p))
+stepped q header p n m c l eh en em =
+    let d = laid_down q.ring header p n m q.used l eh en em in
+    let s = length_put q.ring p m q.used l d in
+    let g = grown q.ring p m q.used l d q.exact in
+    let a = list_all-append (carried (length q.ring)) (waits_in q) (p ∷ []) in
+    let f = q.fine in
+    record { size = s; waiting = g; exact = exact_again q.ring p m q.used l d q.exact; fine = rw (s, g, a) (simp (f, c)) }

@@ -1,12 +1,13 @@
 -- The memory of a queue: a ring of octets, and the packets that lie in it
-use Rattle.std.specs.Prelude.{ℕ, zero, suc, ◌+◌, ◌-◌, ◌*◌, ◌/◌, ◌%◌, cond, List, [], ◌∷◌, ◌++◌, length, take, drop, nat_lt, slice_index}
+use Rattle.std.specs.Prelude.{ℕ, zero, suc, ◌+◌, ◌-◌, ◌*◌, ◌/◌, ◌%◌, cond, List, [], ◌∷◌, ◌++◌, length, take, drop, nat_lt}
+use Rattle.std.specs.List.{flat_map}
 
 -- a memory read round from a place: from there to its end, then from its front up to there
 unfoldable pub round : List ℕ → ℕ → List ℕ
 round m place = drop place m ++ take place m
 
 -- the place n octets on in a ring of so many octets
-unfoldable pub ahead : ℕ → ℕ → ℕ → ℕ
+abbrev pub ahead : ℕ → ℕ → ℕ → ℕ
 ahead ring place n = cond (nat_lt n (ring - place)) (place + n) (n - (ring - place))
 
 -- how a packet lies there: two octets with its length, most significant first, then its own
@@ -15,8 +16,7 @@ framed p = length p / 256 ∷ length p % 256 ∷ p
 
 -- packets one after another
 abbrev pub encode : List (List ℕ) → List ℕ
-encode [] = []
-encode (p ∷ ps) = framed p ++ encode ps
+encode ps = flat_map framed ps
 
 -- the packets that lie one after another in some octets, at most k of them: each length read, then so many octets
 abbrev pub parse : ℕ → List ℕ → List (List ℕ)
@@ -32,7 +32,3 @@ waits octets u = parse u (take u octets)
 -- octets with a packet laid down after the first u
 abbrev pub put_at : List ℕ → ℕ → List ℕ → List ℕ
 put_at octets u p = take u octets ++ (framed p ++ drop (u + (2 + length p)) octets)
-
--- the length that the first two octets give
-abbrev pub first_length : List ℕ → ℕ
-first_length octets = slice_index octets 0 * 256 + slice_index octets 1

@@ -2,7 +2,7 @@
 
 #![tactic(auto)]
 
-ghost use Rattle.std.specs.Prelude.{◌≡◌, ℕ, ◌+◌, List, [], length, nat_le};
+ghost use Rattle.std.specs.Prelude.{◌≡◌, ℕ, ◌+◌, ◌<◌, ◌≤◌, List, [], length, nat_le, slice_index_or};
 ghost use Rattle.queue.specs.Keeps.{queue_laws};
 ghost use Rattle.queue.specs.Queue.{waits_in, carried_by, space_in, cause_of};
 ghost use Rattle.queue.specs.Rules.{carried, why};
@@ -10,9 +10,19 @@ ghost use Rattle.queue.specs.Rules.{carried, why};
 mod ring;
 mod store;
 
-use destination::{Destination, Offer};
+use destination::{Destination, LONGEST, Refused, SHORTEST};
+use ring::Ring;
 pub use store::Queue;
-use store::Store;
+
+/// Why a packet is refused.
+enum Cause {
+    /// It does not fit beside those that wait.
+    NoSpace = 1,
+    /// It would not fit an empty queue.
+    TooLarge = 2,
+    /// Its length is out of bounds.
+    BadLength = 5,
+}
 
 impl<'a> Queue<'a> {
     /// A queue in these octets, with nothing waiting.
@@ -22,12 +32,22 @@ impl<'a> Queue<'a> {
         ensures space { (p : List ℕ) → space_in result p ≡ nat_le (2 + length p) (length memory.old) }
         ensures cause { (p : List ℕ) → cause_of result p ≡ why (length memory.old) p }
     {
-        let inner = Store {
-            memory,
-            start: 0,
+        Queue {
+            ring: Ring::new(memory),
             used: 0,
-        };
-        Queue { inner }
+        }
+    }
+
+    /// The length of the oldest packet.
+    fn first_len(&self) -> usize
+        requires { 0 < self.now.used }
+        ensures oldest { result ≡ length (slice_index_or (waits_in self.now) 0 []) }
+        ensures small { result ≤ 228 }
+        ensures fits { 2 + result ≤ self.now.used }
+    {
+        let mut header = [0; 2];
+        self.ring.read(0, &mut header);
+        u16::from_be_bytes(header) as usize
     }
 }
 
@@ -52,11 +72,34 @@ impl<'a> Destination for Queue<'a> {
         Self::KIND
     }
 
-    fn offer(&mut self, packet: &[u8]) -> Offer {
-        self.inner.push(packet)
+    fn offer(&mut self, packet: &[u8]) -> Result<(), Refused> {
+        let n = packet.len();
+        if !(SHORTEST..=LONGEST).contains(&n) {
+            return Err(Refused::Never(Cause::BadLength as u16));
+        }
+        let size = self.ring.len();
+        if 2 + n > size {
+            return Err(Refused::Never(Cause::TooLarge as u16));
+        }
+        if 2 + n > size - self.used {
+            return Err(Refused::NotNow(Cause::NoSpace as u16));
+        }
+        let header = (n as u16).to_be_bytes();
+        self.ring.write(self.used, &header);
+        self.ring.write(self.used + 2, packet);
+        self.used += 2 + n;
+        Ok(())
     }
 
     fn take(&mut self, area: &mut [u8]) -> usize {
-        self.inner.pop(area)
+        if area.len() < LONGEST || self.used == 0 {
+            return 0;
+        }
+        let n = self.first_len();
+        self.ring.read(2, &mut area[..n]);
+        let freed = 2 + n;
+        self.ring.advance(freed);
+        self.used -= freed;
+        n
     }
 }

@@ -1,10 +1,31 @@
 //! A slice of octets as a ring: what passes its end goes on at its front.
-ghost use Rattle.std.specs.Prelude.{◌≡◌, ◌≤◌, length, take};
+ghost use Rattle.std.specs.Prelude.{◌≡◌, ◌+◌, ◌++◌, length, take, drop, ◌≤◌};
 ghost use Rattle.destination.specs.Destination.{laid};
 ghost use Rattle.queue.specs.Ring.{round, ahead};
 
-/// The place `n` octets on from `at`, in a ring of `size` octets.
-pub(crate) fn onward(size: usize, at: usize, n: usize) -> usize
+use std::marker::Model;
+
+/// The octets, which clauses read from `start` on and round.
+#[derive(Drop)]
+pub struct Ring<'a> {
+    octets: &'a mut [u8],
+    start: usize,
+}
+
+impl<'a> Model for Ring<'a> {
+    ghost use Rattle.std.specs.Prelude.{ℕ, List, ◌≤◌, length};
+    ghost use Rattle.queue.specs.Ring.{round};
+
+    ghost Value = { List ℕ };
+
+    ghost view = { λ r. round r.octets.now r.start };
+
+    ghost invariant = { λ r. r.start ≤ length r.octets.now };
+}
+
+/// The place `n` octets on from `at`, in a ring of `size` octets. It takes the fields, since a
+/// method's clauses see no more than the octets in their order.
+fn onward(size: usize, at: usize, n: usize) -> usize
     requires { (at ≤ size) × (n ≤ size) }
     ensures place { result ≡ ahead size at n }
     ensures within { result ≤ size }
@@ -13,32 +34,58 @@ pub(crate) fn onward(size: usize, at: usize, n: usize) -> usize
     if n < to_end { at + n } else { n - to_end }
 }
 
-/// Fills `out` with the octets from `at` on.
-pub(crate) fn read_round(memory: &[u8], at: usize, out: &mut [u8])
-    requires { (at ≤ length memory.now) × (length out.old ≤ length memory.now) }
-    ensures { out.new ≡ take (length out.old) (round memory.now at) }
-{
-    let n = out.len();
-    let to_end = memory.len() - at;
-    if n <= to_end {
-        out.copy_from_slice(&memory[at..at + n]);
-    } else {
-        out[..to_end].copy_from_slice(&memory[at..]);
-        out[to_end..].copy_from_slice(&memory[..n - to_end]);
-    }
-}
-
-/// Writes the octets from `at` on.
-pub(crate) fn write_round(memory: &mut [u8], at: usize, octets: &[u8])
+/// Writes the octets from `at` on. A function of its own, since after two writes through the field
+/// of a `Ring` the check knows no more than the length of what it lends.
+fn write_round(memory: &mut [u8], at: usize, octets: &[u8])
     requires { (at ≤ length memory.old) × (length octets.now ≤ length memory.old) }
     ensures { round memory.new at ≡ laid octets.now (round memory.old at) }
 {
-    let n = octets.len();
-    let to_end = memory.len() - at;
-    if n <= to_end {
-        memory[at..at + n].copy_from_slice(octets);
-    } else {
-        memory[at..].copy_from_slice(&octets[..to_end]);
-        memory[..n - to_end].copy_from_slice(&octets[to_end..]);
+    let near = octets.len().min(memory.len() - at);
+    let (front, back) = octets.split_at(near);
+    memory[at..at + near].copy_from_slice(front);
+    memory[..back.len()].copy_from_slice(back);
+}
+
+impl<'a> Ring<'a> {
+    pub(crate) fn new(octets: &'a mut [u8]) -> Ring<'a>
+        ensures { result ≡ octets.old }
+    {
+        Ring { octets, start: 0 }
+    }
+
+    pub(crate) fn len(&self) -> usize
+        ensures { result ≡ length self.now }
+    {
+        self.octets.len()
+    }
+
+    /// Moves the start `n` octets on.
+    pub(crate) fn advance(&mut self, n: usize)
+        requires { n ≤ length self.old }
+        ensures { self.new ≡ round self.old n }
+    {
+        self.start = onward(self.octets.len(), self.start, n);
+    }
+
+    /// Fills `out` with the octets from `at` on.
+    pub(crate) fn read(&self, at: usize, out: &mut [u8])
+        requires { at + length out.old ≤ length self.now }
+        ensures { out.new ≡ take (length out.old) (drop at self.now) }
+    {
+        let from = onward(self.octets.len(), self.start, at);
+        let near = out.len().min(self.octets.len() - from);
+        let (front, back) = out.split_at_mut(near);
+        let (before, after) = self.octets.split_at(from);
+        front.copy_from_slice(&after[..near]);
+        back.copy_from_slice(&before[..back.len()]);
+    }
+
+    /// Writes the octets from `at` on.
+    pub(crate) fn write(&mut self, at: usize, octets: &[u8])
+        requires { at + length octets.now ≤ length self.old }
+        ensures { self.new ≡ take at self.old ++ (octets.now ++ drop (at + length octets.now) self.old) }
+    {
+        let from = onward(self.octets.len(), self.start, at);
+        write_round(self.octets, from, octets);
     }
 }

@@ -51,34 +51,31 @@ fn print(rt: &HostRuntime, transcript: &Transcript<'_, '_>) -> io::Result<()> {
 fn replay(rt: &HostRuntime) -> Result<(), ReplayError> {
     let script = read_script(rt)?;
     let accepts = script.accepts()?;
-    let calls = script.calls(accepts.len())?;
-    let mut notes = script.notes(accepts.len())?;
-    let places = Vec::with_capacity(rt.alloc(), calls.len())?;
-    match run(places, calls.as_slice(), notes.as_mut_slice()) {
+    let mut entries = script.entries()?;
+    let places = Vec::with_capacity(rt.alloc(), entries.len())?;
+    match run(places, entries.as_mut_slice()) {
         Ok(session) => session.end(&mut [0; 4096]),
         // there is room for a request of each call
         Err(_places) => unreachable!(),
     };
-    let transcript = Transcript::new(
-        script.steps().len(),
-        accepts.as_slice(),
-        calls.as_slice(),
-        notes.as_slice(),
-    );
+    let transcript = Transcript::new(script.steps().len(), accepts.as_slice(), entries.as_slice());
     print(rt, &transcript)?;
     Ok(())
 }
 
 // Whether the arguments ask for help; the first that means nothing is an error.
 fn asks_help(rt: &HostRuntime) -> Result<bool, ReplayError> {
-    let mut help = false;
-    for argument in env::args(rt)?.skip(1) {
-        if help || (argument.as_str() != "--help" && argument.as_str() != "-h") {
-            return Err(ReplayError::Argument(argument));
-        }
-        help = true;
+    let mut arguments = env::args(rt)?.skip(1);
+    let Some(first) = arguments.next() else {
+        return Ok(false);
+    };
+    if !matches!(first.as_str(), "--help" | "-h") {
+        return Err(ReplayError::Argument(first));
     }
-    Ok(help)
+    match arguments.next() {
+        Some(second) => Err(ReplayError::Argument(second)),
+        None => Ok(true),
+    }
 }
 
 fn run_program(rt: &HostRuntime) -> Result<(), ReplayError> {

@@ -1,9 +1,9 @@
 -- A report read is the report written, and a report that passes the reader's tests is what the definition reads
-use Rattle.std.proofs.Common.{◌≡◌, ℕ, ◌+◌, ◌-◌, ◌*◌, ◌/◌, ◌%◌, ◌^◌, ◌≤◌, Bool, true, cond, ◌&&◌, eqb, leb, List, ◌∷◌, ◌++◌, length, get_or, take, drop, Some, None, sym, refl, ap, ◌∙◌, append_assoc, arith, length-append, take_at}
+use Rattle.std.proofs.Common.{◌≡◌, ℕ, ◌+◌, ◌-◌, ◌*◌, ◌/◌, ◌%◌, ◌^◌, ◌≤◌, Bool, true, cond, ◌&&◌, eqb, leb, List, ◌∷◌, ◌++◌, length, get_or, take, Some, None, sym, refl, ap, ◌∙◌, append_assoc, arith, length-append, take_at}
 use Rattle.std.proofs.lemmas.List.{get_or_at, get_or-append_right}
 use Rattle.std.proofs.lemmas.Bool.{and_from, eq-eqb, le-leb, cond-true}
 use Rattle.check_field.specs.CheckField.{check_field}
-use Rattle.report.specs.Report.{head_of, two_octets, with_check, report_of, Content, Fields, fields_of, size_in, clock_in, is_head, is_whole, is_checked, read_of}
+use Rattle.report.specs.Report.{head_of, two_octets, with_check, report_of, Content, Fields, fields_of, clock_in, is_head, is_whole, is_checked, read_of}
 
 -- octets with their check field after them pass the check
 pub is_checked-with_check : (w rest : List ℕ) (n : ℕ) → length w + 2 ≡ n → is_checked n (with_check w ++ rest) ≡ true
@@ -57,20 +57,3 @@ reads_back n t c rest h =
     ∙ ap (λ k. Some (made s u (n % 16384) k size (take (size - 18) ((b ++ two) ++ rest)))) (six_octets t)
     ∙ ap (λ l. Some (made s u (n % 16384) (t % 2 ^ 48) size l)) hb
     ∙ ap (λ k. Some (made s u (n % 16384) (t % 2 ^ 48) k b)) hs
-
--- what is read of octets that pass each test, from the values that a reader has at hand
-pub found : (p b : List ℕ) (n k t : ℕ)
-    → n ≡ size_in p → k ≡ (get_or p 2 0 * 256 + get_or p 3 0) % 16384 → t ≡ clock_in p → b ≡ take (n - 18) (drop 16 p)
-    → is_head p ≡ true → 18 ≤ n → n ≤ length p → is_checked n p ≡ true
-    → Some (made (get_or p 7 0) (get_or p 8 0) k t n b) ≡ read_of p
-found p b n k t hn hk ht hb head low high checked =
-    let s : ℕ = get_or p 7 0 in
-    let u : ℕ = get_or p 8 0 in
-    let m : ℕ = size_in p in
-    let iw : is_whole m p ≡ true = and_from (leb 18 m) (leb m (length p)) (le-leb 18 m (omega arith)) (le-leb m (length p) (omega arith)) in
-    let ic : is_checked m p ≡ true = ap (λ z. is_checked z p) (sym hn) ∙ checked in
-    ap (λ z. Some (made s u k t n z)) hb
-    ∙ ap (λ z. Some (made s u k t z (take (z - 18) (drop 16 p)))) hn
-    ∙ ap (λ z. Some (made s u z t m (take (m - 18) (drop 16 p)))) hk
-    ∙ ap (λ z. Some (made s u ((get_or p 2 0 * 256 + get_or p 3 0) % 16384) z m (take (m - 18) (drop 16 p)))) ht
-    ∙ sym (given (is_head p) (is_whole m p) (is_checked m p) _ head iw ic)

@@ -1,5 +1,6 @@
 -- The octets of a report, what is read back from them, and the reports one after another
 use Rattle.std.specs.Prelude.{ℕ, ◌+◌, ◌-◌, ◌*◌, ◌/◌, ◌%◌, ◌^◌, Bool, cond, ◌&&◌, List, [], ◌∷◌, ◌++◌, length, take, drop, Some, None, Option, ◌==◌, nat_le, slice_index}
+use Rattle.std.specs.List.{find}
 use Rattle.check_field.specs.CheckField.{check_field}
 use Rattle.report.specs.declared.Report.{Report}
 use Rattle.report.specs.declared.ReportKind.{ReportKind}
@@ -30,6 +31,14 @@ subtype_of AcceptanceFailure = 2
 subtype_of CompletionSuccess = 7
 subtype_of Status = 19
 subtype_of Connection = 2
+
+-- all kinds
+abbrev pub kinds : List ReportKind
+kinds = AcceptanceSuccess ∷ AcceptanceFailure ∷ CompletionSuccess ∷ Status ∷ Connection ∷ []
+
+-- the kind of report with this service type and this subtype, if there is one
+abbrev pub kind_of : ℕ → ℕ → Option ReportKind
+kind_of s u = find (λ k. service_of k == s && subtype_of k == u) kinds
 
 -- what a report of a kind says with a body
 abbrev pub content_of : ReportKind → List ℕ → Content
@@ -135,8 +144,8 @@ fields_in r =
     record {
       service = r.service;
       subtype = r.subtype;
-      count = r.sequence_count;
-      clock = r.clock;
+      count = r.stamp.sequence_count;
+      clock = r.stamp.clock;
       size = r.size;
       body = r.body.now;
     }

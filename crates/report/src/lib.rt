@@ -7,7 +7,7 @@
 #![tactic(auto)]
 
 ghost use Rattle.std.specs.Prelude.{◌≡◌, ℕ, ◌+◌, ◌≤◌, true, List, ◌++◌, length, if◌then◌else◌, Some};
-ghost use Rattle.report.specs.Report.{over, next_count, head_of, report_of, content_of, service_of, subtype_of, fits, written_of, fields_of, clock_in, is_head, is_checked, read_of, meant};
+ghost use Rattle.report.specs.Report.{over, next_count, head_of, report_of, content_of, service_of, subtype_of, fits, written_of, fields_of, kind_of, clock_in, is_head, is_checked, read_of, meant};
 
 use check_field::check_field;
 
@@ -47,6 +47,16 @@ pub enum ReportKind {
     Connection,
 }
 
+// All of them.
+const KINDS: [ReportKind; 5] = [
+    ReportKind::AcceptanceSuccess,
+    ReportKind::AcceptanceFailure,
+    ReportKind::CompletionSuccess,
+    ReportKind::Status,
+    ReportKind::Connection,
+];
+
+// Two numbers for each kind, so they are no discriminants.
 impl ReportKind {
     /// The service type.
     pub fn service(self) -> u8
@@ -98,7 +108,8 @@ impl Stamp {
     }
 }
 
-// Copies `part` to the place `at`, and answers where it ends.
+// Copies `part` to the place `at`, and answers where it ends. A slice and a place, and no type of
+// both: it is called in one function alone, so such a type would be no plainer.
 fn append(out: &mut [u8], at: usize, part: &[u8]) -> usize
     requires { at + length part.now ≤ length out.old }
     ensures end { result ≡ at + length part.now }
@@ -109,66 +120,78 @@ fn append(out: &mut [u8], at: usize, part: &[u8]) -> usize
     end
 }
 
-// The octets before the body; `data_length` is the size of the packet, minus seven.
-fn head(stamp: Stamp, kind: ReportKind, data_length: u16) -> [u8; 16]
-    ensures { result ≡ head_of (service_of kind) (subtype_of kind) stamp.sequence_count data_length stamp.clock }
-{
-    let [c1, c0] = stamp.sequence_count.to_be_bytes();
-    let [l1, l0] = data_length.to_be_bytes();
-    let [_, _, t5, t4, t3, t2, t1, t0] = stamp.clock.to_be_bytes();
-    let service = kind.service();
-    let subtype = kind.subtype();
-    [
-        ID_UPPER,
-        ID_LOWER,
+/// A report that is to be written.
+#[derive(Clone, Copy)]
+pub struct Draft<'a> {
+    pub stamp: Stamp,
+    pub kind: ReportKind,
+    pub body: &'a [u8],
+}
+
+impl Draft<'_> {
+    // The octets before the body; octets 4 and 5 hold the size of the packet, minus seven.
+    fn head(&self) -> [u8; 16]
+        requires { length self.now.body.now ≤ 65524 }
+        ensures { result ≡ head_of (service_of self.now.kind) (subtype_of self.now.kind) self.now.stamp.sequence_count (11 + length self.now.body.now) self.now.stamp.clock }
+    {
+        let [c1, c0] = self.stamp.sequence_count.to_be_bytes();
+        let [l1, l0] = (11 + self.body.len() as u16).to_be_bytes();
+        let [_, _, t5, t4, t3, t2, t1, t0] = self.stamp.clock.to_be_bytes();
+        let service = self.kind.service();
+        let subtype = self.kind.subtype();
         // The flags stand above the 14 bits of the count.
-        UNSEGMENTED * 64 + c1 % 64,
-        c0,
-        l1,
-        l0,
-        VERSION,
-        service,
-        subtype,
-        0,
-        t5,
-        t4,
-        t3,
-        t2,
-        t1,
-        t0,
-    ]
-}
-
-// Lays the report over the start of `part`, where it is known to fit, and answers where it ends.
-fn lay_report(part: &mut [u8], stamp: Stamp, kind: ReportKind, body: &[u8]) -> usize
-    requires { (18 + length body.now ≤ length part.old) × (length body.now ≤ 65524) }
-    ensures end { result ≡ 18 + length body.now }
-    ensures part { part.new ≡ over (report_of stamp.sequence_count stamp.clock (content_of kind body.now)) part.old }
-{
-    let head = head(stamp, kind, 11 + body.len() as u16);
-    let n = append(part, 0, &head);
-    let n = append(part, n, body);
-    let check = check_field(&part[0..n]);
-    append(part, n, &check.to_be_bytes())
-}
-
-/// Writes a report at the start of `part`, leaves the rest of `part` as it was, and answers how
-/// many octets the report has.
-///
-/// A report that does not go into `part`, or whose body is longer than 65524 octets, is not
-/// written: the answer is `None`, and nothing changes.
-pub fn write_report(part: &mut [u8], stamp: Stamp, kind: ReportKind, body: &[u8]) -> Option<usize>
-    ensures answer { result ≡ written_of (length part.old) (length body.now) }
-    ensures part { part.new ≡ (if fits (length part.old) (length body.now) then over (report_of stamp.sequence_count stamp.clock (content_of kind body.now)) part.old else part.old) }
-    ensures read_back { fits (length part.old) (length body.now) ≡ true → read_of part.new ≡ Some (fields_of stamp.sequence_count stamp.clock (content_of kind body.now)) }
-{
-    if body.len() > MAX_BODY {
-        return None;
+        let flags = UNSEGMENTED * 64;
+        [
+            ID_UPPER,
+            ID_LOWER,
+            flags + c1 % 64,
+            c0,
+            l1,
+            l0,
+            VERSION,
+            service,
+            subtype,
+            0,
+            t5,
+            t4,
+            t3,
+            t2,
+            t1,
+            t0,
+        ]
     }
-    if part.len() < FRAME + body.len() {
-        return None;
+
+    // Lays the report over the start of `part`, where it is known to fit; answers where it ends.
+    fn lay(&self, part: &mut [u8]) -> usize
+        requires { (18 + length self.now.body.now ≤ length part.old) × (length self.now.body.now ≤ 65524) }
+        ensures end { result ≡ 18 + length self.now.body.now }
+        ensures part { part.new ≡ over (report_of self.now.stamp.sequence_count self.now.stamp.clock (content_of self.now.kind self.now.body.now)) part.old }
+    {
+        let head = self.head();
+        let n = append(part, 0, &head);
+        let n = append(part, n, self.body);
+        let check = check_field(&part[0..n]);
+        append(part, n, &check.to_be_bytes())
     }
-    Some(lay_report(part, stamp, kind, body))
+
+    /// Writes the report at the start of `part`, leaves the rest of `part` as it was, and answers
+    /// how many octets the report has.
+    ///
+    /// A report that does not go into `part`, or whose body is longer than 65524 octets, is not
+    /// written: the answer is `None`, and nothing changes.
+    pub fn write(&self, part: &mut [u8]) -> Option<usize>
+        ensures answer { result ≡ written_of (length part.old) (length self.now.body.now) }
+        ensures part { part.new ≡ (if fits (length part.old) (length self.now.body.now) then over (report_of self.now.stamp.sequence_count self.now.stamp.clock (content_of self.now.kind self.now.body.now)) part.old else part.old) }
+        ensures read_back { fits (length part.old) (length self.now.body.now) ≡ true → read_of part.new ≡ Some (fields_of self.now.stamp.sequence_count self.now.stamp.clock (content_of self.now.kind self.now.body.now)) }
+    {
+        if self.body.len() > MAX_BODY {
+            return None;
+        }
+        if part.len() < FRAME + self.body.len() {
+            return None;
+        }
+        Some(self.lay(part))
+    }
 }
 
 /// A report taken apart.
@@ -178,14 +201,22 @@ pub struct Report<'a> {
     pub service: u8,
     /// The subtype.
     pub subtype: u8,
-    /// The sequence count, of 14 bits.
-    pub sequence_count: u16,
-    /// The clock in 1/65536 s, of 48 bits.
-    pub clock: u64,
+    /// The sequence count, of 14 bits, and the clock, of 48.
+    pub stamp: Stamp,
     /// The number of octets of the whole report.
     pub size: usize,
     /// What stands between the clock and the check field.
     pub body: &'a [u8],
+}
+
+impl Report<'_> {
+    /// What the report is about, if a service here gives such reports.
+    pub fn kind(&self) -> Option<ReportKind>
+        ensures { result ≡ kind_of self.now.service self.now.subtype }
+    {
+        KINDS.iter().copied().find(|kind| kind.service() == self.service
+            && kind.subtype() == self.subtype)
+    }
 }
 
 // Whether the octets that are the same in every report, and its flag bits, are right.
@@ -235,8 +266,10 @@ pub fn read_report<'a>(octets: &'a [u8]) -> Option<Report<'a>>
     Some(Report {
         service: *service,
         subtype: *subtype,
-        sequence_count: u16::from_be_bytes([*c1, *c0]) % COUNTS,
-        clock: clock_in(octets),
+        stamp: Stamp {
+            sequence_count: u16::from_be_bytes([*c1, *c0]) % COUNTS,
+            clock: clock_in(octets),
+        },
         size,
         // Between the six octets of the clock and the check field.
         body: &rest[6..size - 12],
@@ -252,13 +285,18 @@ mod tests {
         clock: 0x0102_0304_0506,
     };
 
+    fn draft() -> Draft<'static> {
+        Draft {
+            stamp: STAMP,
+            kind: ReportKind::Status,
+            body: &[0xab, 0xcd],
+        }
+    }
+
     #[test]
     fn octets(rt: HostRuntime) {
         let mut area = [0xff; 22];
-        assert_eq!(rt;
-            write_report(&mut area, STAMP, ReportKind::Status, &[0xab, 0xcd]),
-            Some(20)
-        );
+        assert_eq!(rt; draft().write(&mut area), Some(20));
         assert_eq!(rt;
             area,
             [
@@ -271,17 +309,14 @@ mod tests {
     #[test]
     fn read_back(rt: HostRuntime) {
         let mut area = [0xff; 22];
-        assert_eq!(rt;
-            write_report(&mut area, STAMP, ReportKind::Status, &[0xab, 0xcd]),
-            Some(20)
-        );
+        assert_eq!(rt; draft().write(&mut area), Some(20));
         match read_report(&area) {
             None => assert!(rt; false),
             Some(report) => {
                 assert_eq!(rt; report.service, 11);
                 assert_eq!(rt; report.subtype, 19);
-                assert_eq!(rt; report.sequence_count, 0x1234);
-                assert_eq!(rt; report.clock, 0x0102_0304_0506);
+                assert_eq!(rt; report.stamp.sequence_count, 0x1234);
+                assert_eq!(rt; report.stamp.clock, 0x0102_0304_0506);
                 assert_eq!(rt; report.size, 20);
                 assert_eq!(rt; report.body.len(), 2);
             }
@@ -294,10 +329,7 @@ mod tests {
     #[test]
     fn short_area(rt: HostRuntime) {
         let mut area = [0xff; 19];
-        assert_eq!(rt;
-            write_report(&mut area, STAMP, ReportKind::Status, &[0xab, 0xcd]),
-            None
-        );
+        assert_eq!(rt; draft().write(&mut area), None);
         assert_eq!(rt; area, [0xff; 19]);
     }
 }

@@ -3,7 +3,7 @@ use Rattle.std.specs.Prelude.{ℕ}
 use Rattle.packet.specs.Packet.{fault_code, fault_a, fault_b}
 use Rattle.request.specs.declared.rejection.Rejection.{Rejection}
 use Rattle.request.specs.declared.rejection.Rejection.TheVariants.{Packet, UnknownType, UnknownSubtype, Field}
-use Rattle.request.specs.declared.rejection.Failure.{Failure}
+use Rattle.packet.specs.declared.Failure.{Failure}
 
 abbrev pub code_of : Rejection → ℕ
 code_of (Packet f) = fault_code f

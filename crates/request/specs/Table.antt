@@ -1,5 +1,6 @@
 -- The table of accepted requests: type, subtype, least number of data octets
-use Rattle.std.specs.Prelude.{ℕ, Bool, true, false, cond, ◌&&◌, List, [], ◌∷◌, Some, None, Ok, Err, Option, Result, ◌==◌, nat_lt}
+use Rattle.std.specs.Prelude.{ℕ, Bool, cond, ◌&&◌, List, [], ◌∷◌, Some, None, Ok, Err, Option, Result, ◌==◌, nat_lt}
+use Rattle.std.specs.List.{find as first, list_any}
 use Rattle.request.specs.declared.rejection.Rejection.{Rejection}
 use Rattle.request.specs.declared.rejection.Rejection.TheVariants.{UnknownType, UnknownSubtype, Field}
 use Rattle.request.specs.declared.table.Kind.{Kind}
@@ -14,13 +15,11 @@ rows = row 11 1 2 Enable ∷ row 11 2 2 Disable ∷ row 11 18 2 Status ∷ row 1
 
 -- the first row of a type and subtype
 abbrev pub find : ℕ → ℕ → List Row → Option Row
-find s u [] = None
-find s u (x ∷ xs) = cond (x.service == s && x.subtype == u) (Some x) (find s u xs)
+find s u xs = first (λ x. x.service == s && x.subtype == u) xs
 
 -- whether any row is of a type
 abbrev pub has_type : ℕ → List Row → Bool
-has_type s [] = false
-has_type s (x ∷ xs) = cond (x.service == s) true (has_type s xs)
+has_type s xs = list_any (λ x. x.service == s) xs
 
 -- the kind of a request with n octets of data: an unknown type, then an unknown subtype, then too few data are refused
 abbrev pub chosen : ℕ → ℕ → ℕ → Bool → Option Row → Result Kind Rejection

@@ -1,41 +1,18 @@
-ghost use Rattle.std.specs.Prelude.{◌≡◌, ℕ, ◌+◌, ◌*◌, ◌≤◌, true, length, drop, IfOk, slice_index};
+ghost use Rattle.std.specs.Prelude.{◌≡◌, ℕ, ◌+◌, ◌*◌, ◌≤◌, true, length, IfOk, Ok};
 ghost use Rattle.packet.specs.Octets.{words};
-ghost use Rattle.request.specs.declared.rejection.Rejection.TheVariants.{Packet};
-ghost use Rattle.request.specs.Request.{out_of_range, ack_of, named_of, decode_of, request_of, name_of, few, few_asked, names_in, asked_in, meant_names, meant_asked, meant};
+ghost use Rattle.request.specs.Request.{or_else, out_of_range, ack_of, named_of, decode_of, request_of, name_of, few, few_asked, names_in, asked_in, meant_names, meant_asked, meant};
 
 use crate::rejection::Rejection;
 use crate::request::{Ack, Names, Request, Telecommand};
 use crate::table::{Kind, kind_of};
-use packet::{Fault, Role};
-
-impl From<Fault> for Rejection {
-    ghost from_gives = { λ f r. r ≡ Packet f };
-
-    fn from(fault: Fault) -> Rejection {
-        Rejection::Packet(fault)
-    }
-}
-
-fn octet_or_zero(octets: &[u8], place: usize) -> u8
-    ensures { result ≡ slice_index octets.now place }
-{
-    if place < octets.len() {
-        octets[place]
-    } else {
-        0
-    }
-}
+use packet::Role;
+use std::array;
 
 /// The four octets by which reports name a request; missing ones are zero.
 pub fn name_of(octets: &[u8]) -> [u8; 4]
     ensures { result ≡ name_of octets.now }
 {
-    [
-        octet_or_zero(octets, 0),
-        octet_or_zero(octets, 1),
-        octet_or_zero(octets, 2),
-        octet_or_zero(octets, 3),
-    ]
+    array::from_fn(|place| octets.get(place).copied().unwrap_or(0))
 }
 
 fn ack_of(bits: u8) -> Ack
@@ -47,29 +24,19 @@ fn ack_of(bits: u8) -> Ack
     }
 }
 
-// The first of the numbers, which stand from octet `at` on, that is out of range.
-fn out_of_range(numbers: &[u8], least: u16, most: u16, at: u16) -> Option<Rejection>
+// Refuses the first of the numbers, which stand from octet `at` on, that is out of range.
+fn all_in_range(numbers: &[u8], least: u16, most: u16, at: u16) -> Result<(), Rejection>
     requires { at + length numbers.now ≤ 65535 }
-    ensures { result ≡ out_of_range least most at (words numbers.now) }
+    ensures { result ≡ or_else (out_of_range least most at (words numbers.now)) (Ok tt) }
 {
-    let mut rest = numbers;
-    let mut octet = at;
-    while let [hi, lo, more @ ..] = rest {
-        let value = u16::from_be_bytes([*hi, *lo]);
-        if value < least || value > most {
-            return Some(Rejection::Field { octet, value });
+    for (i, number) in numbers.as_chunks::<2>().0.iter().enumerate() {
+        let value = u16::from_be_bytes(*number);
+        if !(least..=most).contains(&value) {
+            let octet = at + 2 * i as u16;
+            return Err(Rejection::Field { octet, value });
         }
-        rest = more;
-        octet += 2;
     }
-    None
-}
-
-fn tail(octets: &[u8], from: usize) -> &[u8]
-    requires { from ≤ length octets.now }
-    ensures { result.now ≡ drop from octets.now }
-{
-    &octets[from..]
+    Ok(())
 }
 
 fn names<'a>(body: &'a [u8]) -> Result<Names<'a>, Rejection>
@@ -77,30 +44,20 @@ fn names<'a>(body: &'a [u8]) -> Result<Names<'a>, Rejection>
     ensures value { meant_names result ≡ named_of body.now }
     ensures few { IfOk result (λ n. few (names_in n) ≡ true) }
 {
-    let wrong_length = Rejection::Field {
-        octet: 10,
-        value: body.len() as u16,
-    };
-    let [n1, n2, ..] = body else {
+    let wrong_length = Rejection::wrong_length(body.len() as u16);
+    let [n1, n2, numbers @ ..] = body else {
         return Err(wrong_length);
     };
-    let count = *n1 as usize + *n2 as usize;
-    if body.len() != 2 + count * 2 {
+    let (n1, n2) = (*n1 as usize, *n2 as usize);
+    if numbers.len() != (n1 + n2) * 2 {
         return Err(wrong_length);
     }
-    if count == 0 {
-        return Err(Rejection::Field {
-            octet: 10,
-            value: 0,
-        });
+    if n1 + n2 == 0 {
+        return Err(Rejection::wrong_length(0));
     }
-    let (subschedules, apids) = tail(body, 2).split_at(*n1 as usize * 2);
-    if let Some(e) = out_of_range(subschedules, 1, 4095, 12) {
-        return Err(e);
-    }
-    if let Some(e) = out_of_range(apids, 0, 2047, 12 + *n1 as u16 * 2) {
-        return Err(e);
-    }
+    let (subschedules, apids) = numbers.split_at(n1 * 2);
+    all_in_range(subschedules, 1, 4095, 12)?;
+    all_in_range(apids, 0, 2047, 12 + n1 as u16 * 2)?;
     Ok(Names {
         subschedules,
         apids,
@@ -116,15 +73,8 @@ fn decode<'a>(kind: Kind, body: &'a [u8]) -> Result<Request<'a>, Rejection>
         Kind::Enable => Ok(Request::Enable(names(body)?)),
         Kind::Disable => Ok(Request::Disable(names(body)?)),
         Kind::Status => Ok(Request::Status(names(body)?)),
-        Kind::ConnectionTest => {
-            if body.len() != 0 {
-                return Err(Rejection::Field {
-                    octet: 10,
-                    value: body.len() as u16,
-                });
-            }
-            Ok(Request::ConnectionTest)
-        }
+        Kind::ConnectionTest if body.is_empty() => Ok(Request::ConnectionTest),
+        Kind::ConnectionTest => Err(Rejection::wrong_length(body.len() as u16)),
     }
 }
 

@@ -1,7 +1,8 @@
 ghost use Rattle.std.specs.Prelude.{◌≡◌};
 ghost use Rattle.request.specs.Rejection.{failure_of};
+ghost use Rattle.request.specs.declared.rejection.Rejection.TheVariants.{Packet, Field};
 
-use packet::Fault;
+use packet::{Failure, Fault};
 
 /// Why a request is not accepted.
 #[derive(Clone, Copy)]
@@ -17,40 +18,36 @@ pub enum Rejection {
     Field { octet: u16, value: u16 },
 }
 
-/// A failure as reports carry it: its code and the numbers A and B.
-#[derive(Clone, Copy)]
-pub struct Failure {
-    pub code: u16,
-    pub a: u16,
-    pub b: u16,
+impl Rejection {
+    // The data are not as long as their layout: told by their first octet.
+    pub(crate) fn wrong_length(length: u16) -> Rejection
+        ensures { result ≡ Field 10 length }
+    {
+        Rejection::Field {
+            octet: 10,
+            value: length,
+        }
+    }
 }
 
-impl Rejection {
-    /// The numbers of this rejection.
-    pub fn failure(self) -> Failure
-        ensures { result ≡ failure_of self }
-    {
-        match self {
-            Rejection::Packet(fault) => Failure {
-                code: fault.code(),
-                a: fault.a(),
-                b: fault.b(),
-            },
-            Rejection::UnknownType { service, subtype } => Failure {
-                code: 3,
-                a: service as u16,
-                b: subtype as u16,
-            },
-            Rejection::UnknownSubtype { service, subtype } => Failure {
-                code: 4,
-                a: service as u16,
-                b: subtype as u16,
-            },
-            Rejection::Field { octet, value } => Failure {
-                code: 5,
-                a: octet,
-                b: value,
-            },
-        }
+impl From<Fault> for Rejection {
+    ghost from_gives = { λ fault r. r ≡ Packet fault };
+
+    fn from(fault: Fault) -> Rejection {
+        Rejection::Packet(fault)
+    }
+}
+
+impl From<Rejection> for Failure {
+    ghost from_gives = { λ rejection r. r ≡ failure_of rejection };
+
+    fn from(rejection: Rejection) -> Failure {
+        let (code, a, b) = match rejection {
+            Rejection::Packet(fault) => return Failure::from(fault),
+            Rejection::UnknownType { service, subtype } => (3, service.into(), subtype.into()),
+            Rejection::UnknownSubtype { service, subtype } => (4, service.into(), subtype.into()),
+            Rejection::Field { octet, value } => (5, octet, value),
+        };
+        Failure { code, a, b }
     }
 }

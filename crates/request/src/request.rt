@@ -1,5 +1,6 @@
 /// The subschedules and APIDs that a request names, as octets of the packet:
 /// each number has two, most significant first.
+// As octets, and no slices of pairs: those would ask more of whoever makes one.
 #[derive(Clone, Copy)]
 pub struct Names<'a> {
     pub subschedules: &'a [u8],

@@ -51,23 +51,15 @@ const TABLE: [Row; 4] = [
 fn find_row(rows: &[Row], service: u8, subtype: u8) -> Option<Row>
     ensures { result ≡ find service subtype rows.now }
 {
-    for row in rows {
-        if row.service == service && row.subtype == subtype {
-            return Some(*row);
-        }
-    }
-    None
+    rows.iter()
+        .copied()
+        .find(|row| row.service == service && row.subtype == subtype)
 }
 
 fn has_type(rows: &[Row], service: u8) -> bool
     ensures { result ≡ has_type service rows.now }
 {
-    for row in rows {
-        if row.service == service {
-            return true;
-        }
-    }
-    false
+    rows.iter().any(|row| row.service == service)
 }
 
 /// The kind of a request with `length` octets of data, or why there is none.
@@ -75,20 +67,9 @@ pub fn kind_of(service: u8, subtype: u8, length: u16) -> Result<Kind, Rejection>
     ensures { result ≡ kind_of service subtype length }
 {
     match find_row(&TABLE, service, subtype) {
-        Some(row) => {
-            if length < row.least {
-                return Err(Rejection::Field {
-                    octet: 10,
-                    value: length,
-                });
-            }
-            Ok(row.kind)
-        }
-        None => {
-            if has_type(&TABLE, service) {
-                return Err(Rejection::UnknownSubtype { service, subtype });
-            }
-            Err(Rejection::UnknownType { service, subtype })
-        }
+        Some(row) if length < row.least => Err(Rejection::wrong_length(length)),
+        Some(row) => Ok(row.kind),
+        None if has_type(&TABLE, service) => Err(Rejection::UnknownSubtype { service, subtype }),
+        None => Err(Rejection::UnknownType { service, subtype }),
     }
 }

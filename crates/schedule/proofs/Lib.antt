@@ -1,2 +1,2 @@
-pub mod Commands
-pub mod Ends
+pub mod Free
+pub mod Order

@@ -1,3 +1,4 @@
-pub mod Command
+pub mod Pending
+pub mod Covers
 pub mod Slots
 pub mod Listing

@@ -1,9 +1,6 @@
 -- The slots of the table
 use Rattle.std.specs.Prelude.{ℕ, Bool, true, false, cond, List, length, is_some, Some, None, count_by, Option, nat_le}
 use Rattle.std.specs.List.{prefix_len}
-use Rattle.schedule.specs.declared.slots.Scope.{Scope}
-use Rattle.schedule.specs.declared.slots.Scope.TheVariants.{All, Covered}
-use Rattle.schedule.specs.Command.{Command, covers}
 
 -- the first free slot, or as many as there are
 abbrev pub first_free : {X : Type 0} → List (Option X) → ℕ
@@ -18,13 +15,13 @@ abbrev pub free_slot : {X : Type 0} → List (Option X) → Option ℕ
 free_slot xs = cond (nat_le (length xs) (pendings xs)) None (Some (first_free xs))
 
 -- whether a slot holds a command that is to end
-abbrev pub reaches : Scope → Command → Bool
-reaches All c = true
-reaches (Covered r) c = covers r c
+abbrev pub hit : {X : Type 0} → (X → Bool) → Option X → Bool
+hit ends None = false
+hit ends (Some p) = ends p
 
-abbrev pub hit : Scope → Option Command → Bool
-hit s None = false
-hit s (Some c) = reaches s c
+abbrev pub dropped : {X : Type 0} → (X → Bool) → Option X → Option X
+dropped ends o = cond (hit ends o) None o
 
-abbrev pub dropped : Scope → Option Command → Option Command
-dropped s o = cond (hit s o) None o
+-- that each command is to end
+abbrev pub each : {X : Type 0} → X → Bool
+each x = true

@@ -2,7 +2,7 @@
 
 #![tactic(auto)]
 
-pub mod command;
+pub mod covers;
 pub mod listing;
 pub mod moment;
 pub mod pending;

@@ -1,16 +1,20 @@
 //! The lines of a call script.
-ghost use Rattle.std.specs.Prelude.{◌≤◌, length};
+ghost use Rattle.std.specs.Prelude.{◌≡◌, ◌≢◌, Some, MatchResult};
+ghost use Rattle.script.specs.declared.line.Keyword.{Keyword};
+ghost use Rattle.script.specs.Keyword.{word_of};
 
 use digits::hex::{HexError, octets};
 use digits::number::{NumberError, number};
+use history::call::Call;
 use std::alloc::{AllocError, Global};
 use std::fmt;
+use thiserror::Error;
 
 /// The most octets that an `area` line may set.
 pub const MOST_AREA: u64 = 1048576;
 
 /// The words that a line may begin with.
-#[derive(Clone, Copy)]
+#[derive(Clone, Copy, Debug)]
 pub enum Keyword {
     Area,
     Request,
@@ -20,6 +24,8 @@ pub enum Keyword {
 }
 
 impl fmt::Display for Keyword {
+    ghost output = { λ keyword. Some (word_of keyword) };
+
     fn fmt<W: fmt::Write>(&self, f: &mut fmt::Formatter<W>) -> fmt::Result {
         f.write_str(match *self {
             Keyword::Area => "area",
@@ -31,6 +37,10 @@ impl fmt::Display for Keyword {
     }
 }
 
+/// A word that no line begins with.
+#[derive(Drop)]
+pub struct NotAKeyword;
+
 /// What a line says.
 #[derive(Drop)]
 pub enum Line {
@@ -38,151 +48,96 @@ pub enum Line {
     Blank,
     /// The calls that follow bring an area of so many octets.
     Area(usize),
-    /// A whole request.
-    Request(Vec<u8>),
-    /// Acceptance alone.
-    Accept(Vec<u8>),
-    /// Completion of the request of this `accept` line, counted from 1.
-    Complete(usize),
-    /// Setting the clock, in 1/65536 second.
-    Clock(u64),
+    /// A call on the service; a completion is of the request of an `accept` line.
+    Call(Call<Vec<u8>>),
 }
 
 /// What is wrong with a line.
-#[derive(Drop)]
+#[derive(Debug, Drop, Error)]
 pub enum LineError {
     /// No line begins with this word.
+    #[error("unknown word: {0}")]
     UnknownWord(String),
     /// There is a word more than this line takes.
+    #[error("too many words: {0} takes {takes}", takes = .0.takes())]
     TooManyWords(Keyword),
     /// The number that this line takes is missing.
+    #[error("a number is wanted after {0}")]
     NumberMissing(Keyword),
     /// The word after this one is no number.
+    #[error("a number is wanted after {0}, in decimal digits alone")]
     NotANumber(Keyword),
     /// The number is above the most that this line takes.
+    #[error("number too large: {0} takes at most {1}")]
     NumberTooLarge(Keyword, u64),
-    /// A hexadecimal digit has no second one.
-    OddDigits,
-    /// A character is no hexadecimal digit.
-    NotADigit,
+    /// The word is no row of octets.
+    #[error("{0}")]
+    Hex(#[from] HexError),
     /// There is no memory for the line.
-    OutOfMemory,
+    #[error("out of memory")]
+    OutOfMemory(#[from(alloc)] AllocError),
 }
 
-impl fmt::Display for LineError {
-    fn fmt<W: fmt::Write>(&self, f: &mut fmt::Formatter<W>) -> fmt::Result {
+impl Keyword {
+    // What stands after the word.
+    fn takes(self) -> &'static str {
         match self {
-            LineError::UnknownWord(word) => write!(f, "unknown word: {word}"),
-            LineError::TooManyWords(keyword) => match *keyword {
-                Keyword::Request | Keyword::Accept => write!(
-                    f,
-                    "too many words: {keyword} takes one word of hexadecimal digits"
-                ),
-                _ => write!(f, "too many words: {keyword} takes one number"),
-            },
-            LineError::NumberMissing(keyword) => { write!(f, "a number is wanted after {keyword}") }
-            LineError::NotANumber(keyword) => {
-                write!(
-                    f,
-                    "a number is wanted after {keyword}, in decimal digits alone"
-                )
-            }
-            LineError::NumberTooLarge(keyword, most) => {
-                write!(f, "number too large: {keyword} takes at most {most}")
-            }
-            LineError::OddDigits => f.write_str("hexadecimal digits come in pairs"),
-            LineError::NotADigit => f.write_str("not a hexadecimal digit"),
-            LineError::OutOfMemory => f.write_str("out of memory"),
+            Keyword::Request | Keyword::Accept => "one word of hexadecimal digits",
+            Keyword::Area | Keyword::Complete | Keyword::Clock => "one number",
         }
     }
 }
 
-impl From<AllocError> for LineError {
-    fn from(_e: AllocError) -> LineError {
-        LineError::OutOfMemory
-    }
-}
+impl TryFrom<&[u8]> for Keyword {
+    type Error = NotAKeyword;
 
-impl From<HexError> for LineError {
-    fn from(e: HexError) -> LineError {
-        match e {
-            HexError::OddDigits => LineError::OddDigits,
-            HexError::NotADigit => LineError::NotADigit,
-            HexError::OutOfMemory => LineError::OutOfMemory,
+    ghost try_from_gives = { λ word keyword. MatchResult keyword (λ k. word.now ≡ word_of k) (λ _. (k : Keyword) → word.now ≢ word_of k) };
+
+    fn try_from(word: &[u8]) -> Result<Keyword, NotAKeyword> {
+        match word {
+            b"area" => Ok(Keyword::Area),
+            b"request" => Ok(Keyword::Request),
+            b"accept" => Ok(Keyword::Accept),
+            b"complete" => Ok(Keyword::Complete),
+            b"clock" => Ok(Keyword::Clock),
+            _ => Err(NotAKeyword),
         }
-    }
-}
-
-fn is_space(octet: u8) -> bool {
-    octet == b' ' || octet == b'\t' || octet == b'\r'
-}
-
-// How many octets at the front are spaces, or are none.
-fn run_len(text: &[u8], spaces: bool) -> usize
-    ensures { result ≤ length text.now }
-{
-    for (i, octet) in text.iter().enumerate() {
-        if is_space(*octet) != spaces {
-            return i;
-        }
-    }
-    text.len()
-}
-
-// The first word, which is empty where there is none, and what follows it.
-fn next_word<'a>(text: &'a [u8]) -> (&'a [u8], &'a [u8]) {
-    let (_, rest) = text.split_at(run_len(text, true));
-    rest.split_at(run_len(rest, false))
-}
-
-fn keyword_of(word: &[u8]) -> Option<Keyword> {
-    match word {
-        b"area" => Some(Keyword::Area),
-        b"request" => Some(Keyword::Request),
-        b"accept" => Some(Keyword::Accept),
-        b"complete" => Some(Keyword::Complete),
-        b"clock" => Some(Keyword::Clock),
-        _ => None,
     }
 }
 
 // The number after a keyword.
-fn number_of(keyword: Keyword, word: &[u8], most: u64) -> Result<u64, LineError> {
-    if word.is_empty() {
-        return Err(LineError::NumberMissing(keyword));
-    }
+fn number_of(keyword: Keyword, word: Option<&[u8]>, most: u64) -> Result<u64, LineError> {
+    let word = word.ok_or(LineError::NumberMissing(keyword))?;
     match number(word) {
-        Ok(n) => {
-            if n > most {
-                return Err(LineError::NumberTooLarge(keyword, most));
-            }
-            Ok(n)
-        }
-        Err(NumberError::TooLarge) => Err(LineError::NumberTooLarge(keyword, most)),
+        Ok(n) if n <= most => Ok(n),
+        Ok(_) | Err(NumberError::TooLarge) => Err(LineError::NumberTooLarge(keyword, most)),
         Err(NumberError::NotANumber) => Err(LineError::NotANumber(keyword)),
     }
 }
 
 /// Reads a line, without its newline.
 pub fn read_line(heap: Global, text: &[u8]) -> Result<Line, LineError> {
-    let (first, rest) = next_word(text);
-    if first.is_empty() || first[0] == b'#' {
-        return Ok(Line::Blank);
-    }
-    let Some(keyword) = keyword_of(first) else {
-        let word = String::from_utf8_lossy(heap, first)?;
-        return Err(LineError::UnknownWord(word));
+    let mut words = text
+        .split(|octet| matches!(*octet, b' ' | b'\t' | b'\r'))
+        .filter(|word| !word.is_empty());
+    let first = match words.next() {
+        None | Some([b'#', ..]) => return Ok(Line::Blank),
+        Some(word) => word,
     };
-    let (second, rest) = next_word(rest);
-    let (third, _) = next_word(rest);
-    if !third.is_empty() {
+    let Ok(keyword) = Keyword::try_from(first) else {
+        return Err(LineError::UnknownWord(String::from_utf8_lossy(heap, first)?));
+    };
+    let second = words.next();
+    if words.next().is_some() {
         return Err(LineError::TooManyWords(keyword));
     }
-    match keyword {
-        Keyword::Area => Ok(Line::Area(number_of(keyword, second, MOST_AREA)? as usize)),
-        Keyword::Request => Ok(Line::Request(octets(heap, second)?)),
-        Keyword::Accept => Ok(Line::Accept(octets(heap, second)?)),
-        Keyword::Complete => Ok(Line::Complete(number_of(keyword, second, u64::MAX)? as usize)),
-        Keyword::Clock => Ok(Line::Clock(number_of(keyword, second, u64::MAX)?)),
-    }
+    Ok(match keyword {
+        Keyword::Area => Line::Area(number_of(keyword, second, MOST_AREA)? as usize),
+        Keyword::Request => Line::Call(Call::Request(octets(heap, second.unwrap_or(&[]))?)),
+        Keyword::Accept => Line::Call(Call::Accept(octets(heap, second.unwrap_or(&[]))?)),
+        Keyword::Complete => {
+            Line::Call(Call::Complete(number_of(keyword, second, u64::MAX)? as usize))
+        }
+        Keyword::Clock => Line::Call(Call::SetClock(number_of(keyword, second, u64::MAX)?)),
+    })
 }

@@ -1,45 +1,30 @@
 //! A whole call script.
-ghost use Rattle.std.specs.Prelude.{◌≡◌, ◌+◌, ◌≤◌, IfOk, vec_len};
+ghost use Rattle.std.specs.Prelude.{◌≡◌, None, All, IfOk, map};
+ghost use Rattle.script.specs.Run.{brought, acceptances, run_of};
 
 use crate::line::{Line, LineError, read_line};
-use history::call::{Call, Note, Reply};
+use history::call::{Call, Entry};
 use service::states::LEAST_AREA;
 use std::alloc::{AllocError, Global};
-use std::fmt;
-
-/// What a script asks of the service in one call.
-#[derive(Drop)]
-pub enum Action {
-    Request(Vec<u8>),
-    Accept(Vec<u8>),
-    Complete(usize),
-    SetClock(u64),
-}
+use thiserror::Error;
 
 /// A call of a script.
 #[derive(Drop)]
 pub struct Step {
-    /// What is asked.
-    pub action: Action,
+    /// What is asked of the service.
+    pub call: Call<Vec<u8>>,
     /// How many octets the area has that the call brings.
     pub area: usize,
 }
 
 /// A wrong line.
-#[derive(Drop)]
+#[derive(Debug, Drop, Error)]
+#[error("line {line}: {error}")]
 pub struct ScriptError {
     /// The number of the line, counted from 1.
     pub line: u64,
     /// What is wrong with it.
     pub error: LineError,
-}
-
-impl fmt::Display for ScriptError {
-    fn fmt<W: fmt::Write>(&self, f: &mut fmt::Formatter<W>) -> fmt::Result {
-        let line = self.line;
-        let error = &self.error;
-        write!(f, "line {line}: {error}")
-    }
 }
 
 /// The calls of a script, read line by line.
@@ -64,42 +49,28 @@ impl Script {
         }
     }
 
-    fn add_call(&mut self, action: Action, area: usize) -> Result<(), LineError> {
-        match self.steps.push(Step { action, area }) {
-            Ok(()) => Ok(()),
-            Err(_) => Err(LineError::OutOfMemory),
-        }
-    }
-
-    fn add(&mut self, line: Line) -> Result<(), LineError> {
-        match line {
-            Line::Blank => Ok(()),
-            Line::Area(octets) => {
-                self.area = octets;
-                Ok(())
+    fn read(&mut self, text: &[u8]) -> Result<(), LineError> {
+        match read_line(self.heap, text)? {
+            Line::Blank => {}
+            Line::Area(octets) => self.area = octets,
+            Line::Call(call) => {
+                // setting the clock writes nothing
+                let area = if matches!(call, Call::SetClock(_)) {
+                    0
+                } else {
+                    self.area
+                };
+                self.steps.push(Step { call, area })?;
             }
-            Line::Request(octets) => self.add_call(Action::Request(octets), self.area),
-            Line::Accept(octets) => self.add_call(Action::Accept(octets), self.area),
-            Line::Complete(number) => self.add_call(Action::Complete(number), self.area),
-            // it writes nothing
-            Line::Clock(time) => self.add_call(Action::SetClock(time), 0),
         }
+        Ok(())
     }
 
     /// Reads the next line, without its newline.
     pub fn add_line(&mut self, text: &[u8]) -> Result<(), ScriptError> {
         self.lines = self.lines.saturating_add(1);
-        let added = match read_line(self.heap, text) {
-            Ok(line) => self.add(line),
-            Err(error) => Err(error),
-        };
-        match added {
-            Ok(()) => Ok(()),
-            Err(error) => Err(ScriptError {
-                line: self.lines,
-                error,
-            }),
-        }
+        let line = self.lines;
+        self.read(text).map_err(|error| ScriptError { line, error })
     }
 
     /// The calls read so far.
@@ -108,56 +79,49 @@ impl Script {
     }
 
     /// The octets of each acceptance asked for, in their order.
-    pub fn accepts<'a>(&'a self) -> Result<Vec<&'a [u8]>, AllocError> {
-        let mut accepts = Vec::new(self.heap);
-        for step in self.steps.as_slice() {
-            if let Action::Accept(octets) = &step.action {
-                accepts.push(octets.as_slice())?;
-            }
-        }
-        Ok(accepts)
+    pub fn accepts(&self) -> Result<Vec<&[u8]>, AllocError> {
+        self.steps
+            .iter()
+            .filter_map(|step| match &step.call {
+                Call::Accept(octets) => Some(octets.as_slice()),
+                _ => None,
+            })
+            .collect(self.heap)
     }
 
-    /// The calls to make: those of the script, then a completion for each acceptance asked for,
-    /// in their order, so that no request stays accepted.
-    pub fn calls<'a>(&'a self, accepts: usize) -> Result<Vec<Call<'a>>, AllocError>
-        ensures { IfOk result (λ calls. vec_len calls ≡ vec_len self.now.steps + accepts) }
+    // How many acceptances are asked for.
+    fn count_accepts(&self) -> usize
+        ensures { result ≡ acceptances self.now.steps.items }
     {
-        let mut calls = Vec::new(self.heap);
+        self.steps
+            .iter()
+            .filter(|step| matches!(step.call, Call::Accept(_)))
+            .count()
+    }
+
+    /// The run to make: the calls of the script, then a completion for each acceptance asked
+    /// for, in their order, so that no request stays accepted. No call writes past the least
+    /// area, so where the script sets a larger one, that much is lent.
+    pub fn entries(&self) -> Result<Vec<Entry<'_>>, AllocError>
+        ensures run { IfOk result (λ entries. map brought entries.items ≡ run_of self.now.steps.items) }
+        ensures not_made { IfOk result (λ entries. All (λ e. e.reply ≡ None) entries.items) }
+    {
+        let mut entries = Vec::new(self.heap);
         for step in self.steps.as_slice() {
-            calls.push(match &step.action {
-                Action::Request(octets) => Call::Request(octets.as_slice()),
-                Action::Accept(octets) => Call::Accept(octets.as_slice()),
-                Action::Complete(number) => Call::Complete(*number),
-                Action::SetClock(time) => Call::SetClock(*time),
+            entries.push(Entry {
+                call: step.call.as_deref(),
+                area: vec![in self.heap; 0; step.area.min(LEAST_AREA)]?,
+                reply: None,
             })?;
         }
-        for k in 0..accepts {
-            calls.push(Call::Complete(k + 1))?;
+        // from 0: of 1..=n an invariant would also have to say what the range gave so far
+        for k in 0..self.count_accepts() {
+            entries.push(Entry {
+                call: Call::Complete(k + 1),
+                area: vec![in self.heap; 0; LEAST_AREA]?,
+                reply: None,
+            })?;
         }
-        Ok(calls)
+        Ok(entries)
     }
-
-    /// A note for each of the calls to make, with the area that it brings. No call writes past
-    /// the least area, so where the script sets a larger one, that much is lent.
-    pub fn notes(&self, accepts: usize) -> Result<Vec<Note>, AllocError>
-        ensures { IfOk result (λ notes. vec_len notes ≡ vec_len self.now.steps + accepts) }
-    {
-        let mut notes = Vec::new(self.heap);
-        for step in self.steps.as_slice() {
-            notes.push(empty_note(self.heap, step.area.min(LEAST_AREA))?)?;
-        }
-        for _k in 0..accepts {
-            notes.push(empty_note(self.heap, LEAST_AREA)?)?;
-        }
-        Ok(notes)
-    }
-}
-
-// A note before its call is made.
-fn empty_note(heap: Global, octets: usize) -> Result<Note, AllocError> {
-    Ok(Note {
-        area: vec![in heap; 0; octets]?,
-        reply: Reply::NoSuchRequest,
-    })
 }

@@ -6,7 +6,7 @@ use Rattle.packet.specs.Octets.{words}
 use Rattle.packet.proofs.Octets.{length-words}
 use Rattle.report.specs.Report.{over}
 use Rattle.report.proofs.Over.{over_put, take-over}
-use Rattle.status.specs.Status.{flagged, unwords}
+use Rattle.status.specs.Switches.{flagged, unwords}
 use Rattle.request.specs.Request.{few}
 
 two_set : (xs : List ℕ) (a b : ℕ) → 2 ≤ length xs → set (set xs 0 a) 1 b ≡ over (a ∷ b ∷ []) xs

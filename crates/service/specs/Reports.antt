@@ -1,18 +1,23 @@
 -- Which reports a request earns, and their octets
 use Rattle.std.specs.Prelude.{◌≡◌, ℕ, Bool, cond, List, [], ◌∷◌, ◌++◌, length}
+use Rattle.report.specs.declared.ReportKind.{ReportKind}
 use Rattle.report.specs.declared.ReportKind.TheVariants.{AcceptanceSuccess, AcceptanceFailure, CompletionSuccess, Status, Connection}
 use Rattle.report.specs.Report.{Content, content_of, two_octets, over, reports_of}
 use Rattle.request.specs.declared.rejection.Rejection.{Rejection}
-use Rattle.request.specs.declared.rejection.Failure.{Failure}
+use Rattle.packet.specs.declared.Failure.{Failure}
 use Rattle.request.specs.declared.request.Ack.{Ack}
 use Rattle.request.specs.Rejection.{failure_of}
 use Rattle.request.specs.Request.{Named, few, Asked, enables, disables, asks_status, tests_connection}
-use Rattle.status.specs.Status.{flagged, unwords}
+use Rattle.status.specs.Switches.{flagged, unwords}
 use Rattle.service.specs.State.{State, counted}
 
--- 1,1 with the request's name, where the request asks for it
+-- a success of a kind with the request's name, where the request asks for it
+abbrev pub success_of : ReportKind → Bool → List ℕ → List Content
+success_of kind asked name = cond asked (content_of kind name ∷ []) []
+
+-- 1,1
 abbrev pub acceptance_of : Ack → List ℕ → List Content
-acceptance_of ack name = cond ack.acceptance (content_of AcceptanceSuccess name ∷ []) []
+acceptance_of ack name = success_of AcceptanceSuccess ack.acceptance name
 
 -- 1,2 with the request's name, the code, A and B
 abbrev pub failure_body : List ℕ → Failure → List ℕ
@@ -21,9 +26,9 @@ failure_body name f = name ++ (two_octets f.code ++ (two_octets f.a ++ two_octet
 abbrev pub rejection_of : Rejection → List ℕ → List Content
 rejection_of r name = content_of AcceptanceFailure (failure_body name (failure_of r)) ∷ []
 
--- 1,7 with the request's name, where the request asks for it
+-- 1,7
 abbrev pub completion_of : Ack → List ℕ → List Content
-completion_of ack name = cond ack.completion (content_of CompletionSuccess name ∷ []) []
+completion_of ack name = success_of CompletionSuccess ack.completion name
 
 -- the body of a status report: how many of each, then each number named, raised by 32768 where it is enabled
 abbrev pub status_body : (ℕ → Bool) → (ℕ → Bool) → Named → List ℕ

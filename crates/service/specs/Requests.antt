@@ -1,5 +1,5 @@
 -- The three states of a request, and what each call on one answers, writes and changes
-use Rattle.std.specs.Prelude.{ℕ, Bool, cond, List, [], ◌++◌, length, Ok, Err, Result, nat_lt}
+use Rattle.std.specs.Prelude.{ℕ, Bool, cond, List, [], ◌++◌, length, Some, None, Ok, Err, Option, Result, nat_lt}
 use Rattle.report.specs.Report.{Content}
 use Rattle.request.specs.declared.rejection.Rejection.{Rejection}
 use Rattle.request.specs.declared.request.Ack.{Ack}
@@ -13,7 +13,7 @@ use Rattle.service.specs.declared.answer.Refusal.TheVariants.{AreaTooShort, Time
 use Rattle.service.specs.declared.states.Accepted.{Accepted}
 use Rattle.service.specs.declared.states.Completed.{Completed}
 use Rattle.service.specs.declared.states.Acceptance.{Acceptance}
-use Rattle.service.specs.declared.states.Acceptance.TheVariants.{Accepted as Takes, Rejected as Turns, ShortArea as TooShort}
+use Rattle.service.specs.declared.states.Received.{Received}
 use Rattle.service.specs.State.{State, counted, carried}
 use Rattle.service.specs.Reports.{acceptance_of, rejection_of, completion_of, data_of, octets_of, area_after}
 
@@ -21,7 +21,7 @@ use Rattle.service.specs.Reports.{acceptance_of, rejection_of, completion_of, da
 abbrev pub value_of : Outcome → ℕ
 value_of WasAccepted = 0
 value_of (Done n) = n
-value_of (Rejected code) = code
+value_of (Rejected r) = code_of r
 
 -- the number of each refusal
 abbrev pub refusal_number : Refusal → ℕ
@@ -93,17 +93,24 @@ pub data Accepted' : Type 0 where
 
 abbrev pub accept_answer : State → List ℕ → Accepting → Accepted'
 accept_answer s p lacks_room = stays p
-accept_answer s p (rejects r) = ends (answered s (rejection_of r (name_of p)) (Rejected (code_of r)))
+accept_answer s p (rejects r) = ends (answered s (rejection_of r (name_of p)) (Rejected r))
 accept_answer s p (accepts h) = moves_on h (answered s (acceptance_of h.ack h.name) WasAccepted)
 
-abbrev pub meant_acceptance : Acceptance → Accepted'
-meant_acceptance (Takes a n) = moves_on (held_in a) n
-meant_acceptance (Turns n) = ends n
-meant_acceptance (TooShort r) = stays r.octets.now
+-- a verdict is an answer, and the request where it was accepted
+abbrev pub verdict : Option Accepted → Answer → Accepted'
+verdict (Some a) n = moves_on (held_in a) n
+verdict None n = ends n
+
+abbrev pub verdict_in : Acceptance → Accepted'
+verdict_in a = verdict a.accepted a.answer
+
+abbrev pub meant_acceptance : Result Acceptance Received → Accepted'
+meant_acceptance (Ok a) = verdict_in a
+meant_acceptance (Err r) = stays r.octets.now
 
 abbrev pub whole_answer : State → List ℕ → Accepting → Result Answer Refusal
 whole_answer s p lacks_room = Err AreaTooShort
-whole_answer s p (rejects r) = Ok (answered s (rejection_of r (name_of p)) (Rejected (code_of r)))
+whole_answer s p (rejects r) = Ok (answered s (rejection_of r (name_of p)) (Rejected r))
 whole_answer s p (accepts h) = Ok (answered s (acceptance_of h.ack h.name ++ finish_reports s.subschedules s.apids h) (Done 0))
 
 -- the answer of completion: done, or the request keeps its state

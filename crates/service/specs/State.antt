@@ -2,7 +2,8 @@
 use Rattle.std.specs.Prelude.{ℕ, Bool, true, false, List, [], ◌∷◌}
 use Rattle.report.specs.Report.{Content, next_count}
 use Rattle.request.specs.Request.{Named, Asked, enables, disables, asks_status, tests_connection}
-use Rattle.status.specs.Status.{subschedules_on, apids_on, switched}
+use Rattle.status.specs.Status.{subschedules_on, apids_on}
+use Rattle.status.specs.Switches.{switched}
 use Rattle.service.specs.declared.service.Service.{Service}
 
 -- the clock, the sequence count of the next report, and which numbers are enabled

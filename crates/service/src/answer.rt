@@ -1,6 +1,9 @@
 ghost use Rattle.std.specs.Prelude.{◌≡◌};
 ghost use Rattle.service.specs.Requests.{refusal_number, value_of};
 
+use packet::Failure;
+use request::rejection::Rejection;
+
 /// How a request fared.
 #[derive(Clone, Copy)]
 pub enum Outcome {
@@ -8,24 +11,25 @@ pub enum Outcome {
     Accepted,
     /// It was carried out; the value is what its kind answers.
     Done(u32),
-    /// It was not accepted; the value is the failure's code.
-    Rejected(u16),
+    /// It was not accepted, for this reason.
+    Rejected(Rejection),
 }
 
 impl Outcome {
-    /// The value that goes with the outcome.
+    /// The value that goes with the outcome: what was answered, or the failure's code.
     pub fn value(self) -> u32
         ensures { result ≡ value_of self }
     {
         match self {
             Outcome::Accepted => 0,
             Outcome::Done(value) => value,
-            Outcome::Rejected(code) => code as u32,
+            Outcome::Rejected(rejection) => u32::from(Failure::from(rejection).code),
         }
     }
 }
 
 /// The answer to a request: its outcome, and how many octets of reports stand in the area.
+// A number, and no slice of them: that would keep the caller's area lent.
 #[derive(Clone, Copy)]
 pub struct Answer {
     pub outcome: Outcome,
@@ -36,11 +40,11 @@ pub struct Answer {
 #[derive(Clone, Copy)]
 pub enum Refusal {
     /// The report area has fewer than 4,096 octets.
-    AreaTooShort,
+    AreaTooShort = 101,
     /// The time does not fit 48 bits.
-    TimeBeyondRange,
+    TimeBeyondRange = 111,
     /// The time is before the clock.
-    ClockBackward,
+    ClockBackward = 112,
 }
 
 impl Refusal {
@@ -48,10 +52,6 @@ impl Refusal {
     pub fn number(self) -> u16
         ensures { result ≡ refusal_number self }
     {
-        match self {
-            Refusal::AreaTooShort => 101,
-            Refusal::TimeBeyondRange => 111,
-            Refusal::ClockBackward => 112,
-        }
+        self as u16
     }
 }

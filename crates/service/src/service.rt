@@ -1,18 +1,19 @@
 ghost use Rattle.std.specs.Prelude.{◌≡◌, ◌+◌, ◌≤◌, [], ◌∷◌, length};
 ghost use Rattle.report.specs.Report.{content_of};
-ghost use Rattle.request.specs.Request.{asked_in, names_in, asks_status};
+ghost use Rattle.request.specs.Request.{request_of, asked_in, names_in, asks_status};
 ghost use Rattle.service.specs.State.{view, initial, counted, carried, switched_by};
-ghost use Rattle.service.specs.Reports.{acceptance_of, rejection_of, completion_of, data_of, area_after, Gives};
-ghost use Rattle.service.specs.Requests.{held_in, accepting, accept_reports, finish_reports, whole_reports, whole_state, accept_answer, whole_answer, finish_answer, finish_area, finish_state, meant_acceptance, meant_completion};
+ghost use Rattle.service.specs.Reports.{success_of, rejection_of, data_of, area_after, Gives};
+ghost use Rattle.service.specs.Requests.{held_in, accepting, accept_reports, finish_reports, whole_reports, whole_state, judged, verdict_in, accept_answer, whole_answer, finish_answer, finish_area, finish_state, meant_acceptance, meant_completion};
 ghost use Rattle.service.specs.Clock.{clock_answer, clock_after};
 
 use crate::answer::{Answer, Outcome, Refusal};
 use crate::body::{failure_body, status_body};
-use crate::states::{Acceptance, Accepted, Completed, LEAST_AREA, Received};
-use report::{ReportKind, Stamp, write_report};
+use crate::states::{Acceptance, Accepted, Asking, Completed, Received};
+use packet::Failure;
+use report::{Draft, ReportKind, Stamp};
 use request::read::{name_of, read_request};
 use request::rejection::Rejection;
-use request::request::{Ack, Names, Request};
+use request::request::{Names, Request};
 use status::Status;
 
 /// The service behind a bus: clock, reports given, status.
@@ -52,7 +53,8 @@ impl Service {
         Ok(())
     }
 
-    // One report at the start of the part.
+    // One report at the start of the part. Each writer gets the area from the current place on, as
+    // a slice, so that the part has room stands in the contract of each and not in a type.
     fn give(&mut self, part: &mut [u8], kind: ReportKind, body: &[u8]) -> usize
         requires { (length body.now ≤ 962) × (980 ≤ length part.old) }
         ensures short { result ≡ 18 + length body.now }
@@ -63,31 +65,23 @@ impl Service {
             clock: self.clock,
         };
         self.report_count = stamp.next().sequence_count;
-        match write_report(part, stamp, kind, body) {
-            Some(written) => written,
-            None => unreachable(),
-        }
+        Draft { stamp, kind, body }.write(part).unwrap()
     }
 
-    fn give_acceptance(&mut self, part: &mut [u8], name: [u8; 4], ack: Ack) -> usize
+    // The report of a success, where it is asked for: it carries the request's name alone.
+    fn give_success(
+        &mut self,
+        part: &mut [u8],
+        asked: bool,
+        kind: ReportKind,
+        name: [u8; 4],
+    ) -> usize
         requires { 980 ≤ length part.old }
         ensures short { result ≤ 22 }
-        ensures gives { Gives (view self.old) (view self.old) (acceptance_of ack name) part.old part.new (view self.new) result }
+        ensures gives { Gives (view self.old) (view self.old) (success_of kind asked name) part.old part.new (view self.new) result }
     {
-        if ack.acceptance {
-            self.give(part, ReportKind::AcceptanceSuccess, &name)
-        } else {
-            0
-        }
-    }
-
-    fn give_completion(&mut self, part: &mut [u8], name: [u8; 4], ack: Ack) -> usize
-        requires { 980 ≤ length part.old }
-        ensures short { result ≤ 22 }
-        ensures gives { Gives (view self.old) (view self.old) (completion_of ack name) part.old part.new (view self.new) result }
-    {
-        if ack.completion {
-            self.give(part, ReportKind::CompletionSuccess, &name)
+        if asked {
+            self.give(part, kind, &name)
         } else {
             0
         }
@@ -95,9 +89,10 @@ impl Service {
 
     fn give_rejection(&mut self, part: &mut [u8], name: [u8; 4], rejection: Rejection) -> usize
         requires { 980 ≤ length part.old }
+        ensures short { result ≡ 28 }
         ensures gives { Gives (view self.old) (view self.old) (rejection_of rejection name) part.old part.new (view self.new) result }
     {
-        let body = failure_body(name, rejection.failure());
+        let body = failure_body(name, Failure::from(rejection));
         self.give(part, ReportKind::AcceptanceFailure, &body)
     }
 
@@ -110,16 +105,14 @@ impl Service {
         if names.subschedules.len() / 2 + names.apids.len() / 2 > 117 {
             return 0;
         }
-        let mut body = [0u8; 236];
-        let n = status_body(&self.status, names, &mut body);
-        self.give(part, ReportKind::Status, &body[0..n])
+        let body = status_body(&self.status, names);
+        self.give(part, ReportKind::Status, body.as_slice())
     }
 
     fn switch(&mut self, names: Names, on: bool)
         ensures { view self.new ≡ switched_by (view self.old) (names_in names.entry) on }
     {
-        self.status.switch_subschedules(names.subschedules, on);
-        self.status.switch_apids(names.apids, on);
+        self.status.switch(names.subschedules, names.apids, on);
     }
 
     // Does what a request asks, and writes the reports with what it asked to know.
@@ -150,36 +143,61 @@ impl Service {
     {
         let Accepted { name, telecommand } = request;
         let at = self.carry_out(part, telecommand.request);
-        let n = self.give_completion(&mut part[at..], name, telecommand.ack);
+        let n = self.give_success(
+            &mut part[at..],
+            telecommand.ack.completion,
+            ReportKind::CompletionSuccess,
+            name,
+        );
         at + n
     }
 
+    // Accepts octets or rejects them, over an area that has room.
+    fn receive<'a>(&mut self, octets: &'a [u8], area: &mut [u8]) -> Acceptance<'a>
+        requires { 4096 ≤ length area.old }
+        ensures short { result.answer.written ≤ 28 }
+        ensures answer { verdict_in result ≡ accept_answer (view self.old) octets.now (judged octets.now (request_of octets.now)) }
+        ensures area { area.new ≡ area_after (view self.old) (accept_reports octets.now (judged octets.now (request_of octets.now))) area.old }
+        ensures state { view self.new ≡ counted (view self.old) (accept_reports octets.now (judged octets.now (request_of octets.now))) }
+    {
+        let name = name_of(octets);
+        match read_request(octets) {
+            Ok(telecommand) => {
+                let asked = telecommand.ack.acceptance;
+                let kind = ReportKind::AcceptanceSuccess;
+                let written = self.give_success(area, asked, kind, name);
+                let outcome = Outcome::Accepted;
+                Acceptance {
+                    answer: Answer { outcome, written },
+                    accepted: Some(Accepted { name, telecommand }),
+                }
+            }
+            Err(rejection) => {
+                let written = self.give_rejection(area, name, rejection);
+                let outcome = Outcome::Rejected(rejection);
+                Acceptance {
+                    answer: Answer { outcome, written },
+                    accepted: None,
+                }
+            }
+        }
+    }
+
     /// Accepts a received request, or rejects it; with too short an area it stays received.
-    pub fn accept<'a>(&mut self, request: Received<'a>, area: &mut [u8]) -> Acceptance<'a>
+    pub fn accept<'a>(
+        &mut self,
+        request: Received<'a>,
+        area: &mut [u8],
+    ) -> Result<Acceptance<'a>, Received<'a>>
         ensures answer { meant_acceptance result ≡ accept_answer (view self.old) request.entry.octets.now (accepting request.entry.octets.now area.old) }
         ensures area { area.new ≡ area_after (view self.old) (accept_reports request.entry.octets.now (accepting request.entry.octets.now area.old)) area.old }
         ensures state { view self.new ≡ counted (view self.old) (accept_reports request.entry.octets.now (accepting request.entry.octets.now area.old)) }
     {
-        if area.len() < LEAST_AREA {
-            return Acceptance::ShortArea(request);
+        if request.room(area).is_err() {
+            return Err(request);
         }
         let Received { octets } = request;
-        let name = name_of(octets);
-        match read_request(octets) {
-            Ok(telecommand) => {
-                let written = self.give_acceptance(area, name, telecommand.ack);
-                let answer = Answer {
-                    outcome: Outcome::Accepted,
-                    written,
-                };
-                Acceptance::Accepted(Accepted { name, telecommand }, answer)
-            }
-            Err(rejection) => {
-                let written = self.give_rejection(area, name, rejection);
-                let outcome = Outcome::Rejected(rejection.failure().code);
-                Acceptance::Rejected(Answer { outcome, written })
-            }
-        }
+        Ok(self.receive(octets, area))
     }
 
     /// Completes an accepted request; with too short an area it stays accepted.
@@ -192,14 +210,12 @@ impl Service {
         ensures area { area.new ≡ finish_area (view self.old) (held_in request.entry) area.old }
         ensures state { view self.new ≡ finish_state (view self.old) (held_in request.entry) area.old }
     {
-        if area.len() < LEAST_AREA {
+        if request.room(area).is_err() {
             return Err(request);
         }
         let written = self.finish(area, request);
-        let answer = Answer {
-            outcome: Outcome::Done(0),
-            written,
-        };
+        let outcome = Outcome::Done(0);
+        let answer = Answer { outcome, written };
         Ok(Completed { answer })
     }
 
@@ -209,23 +225,17 @@ impl Service {
         ensures area { area.new ≡ area_after (view self.old) (whole_reports (view self.old).subschedules (view self.old).apids octets.now (accepting octets.now area.old)) area.old }
         ensures state { view self.new ≡ counted (whole_state (view self.old) (accepting octets.now area.old)) (whole_reports (view self.old).subschedules (view self.old).apids octets.now (accepting octets.now area.old)) }
     {
-        if area.len() < LEAST_AREA {
-            return Err(Refusal::AreaTooShort);
-        }
-        let name = name_of(octets);
-        let telecommand = match read_request(octets) {
-            Ok(telecommand) => telecommand,
-            Err(rejection) => {
-                let written = self.give_rejection(area, name, rejection);
-                let outcome = Outcome::Rejected(rejection.failure().code);
-                return Ok(Answer { outcome, written });
+        Received::new(octets).room(area)?;
+        let Acceptance { answer, accepted } = self.receive(octets, area);
+        match accepted {
+            None => Ok(answer),
+            Some(request) => {
+                let at = answer.written;
+                let n = self.finish(&mut area[at..], request);
+                let outcome = Outcome::Done(0);
+                let written = at + n;
+                Ok(Answer { outcome, written })
             }
-        };
-        let at = self.give_acceptance(area, name, telecommand.ack);
-        let n = self.finish(&mut area[at..], Accepted { name, telecommand });
-        Ok(Answer {
-            outcome: Outcome::Done(0),
-            written: at + n,
-        })
+        }
     }
 }

@@ -25,25 +25,28 @@ pub struct Completed {
     pub(crate) answer: Answer,
 }
 
-/// What became of a received request.
-pub enum Acceptance<'a> {
-    /// It was accepted.
-    Accepted(Accepted<'a>, Answer),
-    /// It was not accepted, and has ended.
-    Rejected(Answer),
-    /// The area was too short, and the request is as it was.
-    ShortArea(Received<'a>),
+/// What became of a received request: the answer, and the request where it was accepted.
+pub struct Acceptance<'a> {
+    pub answer: Answer,
+    pub accepted: Option<Accepted<'a>>,
 }
 
-// The question whether reports have room, asked of no request.
-fn room_in(area: &[u8]) -> Result<(), Refusal>
-    ensures { result ≡ room_answer area.now }
-{
-    if area.len() < LEAST_AREA {
-        return Err(Refusal::AreaTooShort);
+/// A request in a state from which a call moves it on, over an area for its reports.
+pub trait Asking {
+    /// Whether an area has room for this request's reports; the request stays as it is.
+    fn room(&self, area: &[u8]) -> Result<(), Refusal>
+        ensures { result ≡ room_answer area.now }
+    {
+        if area.len() < LEAST_AREA {
+            return Err(Refusal::AreaTooShort);
+        }
+        Ok(())
     }
-    Ok(())
 }
+
+impl Asking for Received<'_> {}
+
+impl Asking for Accepted<'_> {}
 
 impl<'a> Received<'a> {
     /// Receives any octets.
@@ -51,22 +54,6 @@ impl<'a> Received<'a> {
         ensures { result.octets.now ≡ octets.now }
     {
         Received { octets }
-    }
-
-    /// Whether an area has room for this request's reports; the request stays as it is.
-    pub fn room(&self, area: &[u8]) -> Result<(), Refusal>
-        ensures { result ≡ room_answer area.now }
-    {
-        room_in(area)
-    }
-}
-
-impl<'a> Accepted<'a> {
-    /// Whether an area has room for this request's reports; the request stays as it is.
-    pub fn room(&self, area: &[u8]) -> Result<(), Refusal>
-        ensures { result ≡ room_answer area.now }
-    {
-        room_in(area)
     }
 }
 

@@ -1,3 +1,3 @@
-pub mod Table
+pub mod Bits
 pub mod Maps
 pub mod Names

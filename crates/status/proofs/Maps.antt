@@ -5,7 +5,7 @@ use lib.ListN.{get_or-replicate, length-replicate}
 use Rattle.std.proofs.lemmas.List.{get_or_past}
 use Rattle.std.proofs.lemmas.Bool.{both_ways, cases_lt, le-ltb, lt-ltb}
 use Rattle.std.proofs.lemmas.Bool.Decides.{nat_tests}
-use Rattle.status.specs.Status.{bit, put, switched, is_named}
+use Rattle.status.specs.Switches.{bit, put, switched, is_named}
 
 clear_bit : (m : List ℕ) (k : ℕ) → get_or m (k / 8) 0 ≡ 0 → bit m k ≡ false
 clear_bit m k e = ap (λ z. eqb (z / 2 ^ (k % 8) % 2) 1) e ∙ ap (λ z. eqb (z % 2) 1) (zero-div (2 ^ (k % 8)))

@@ -2,7 +2,7 @@
 use Rattle.std.proofs.Common.{◌≡◌, ℕ, ◌*◌, ◌/◌, Bool, List, [], ◌∷◌, length, refl, arith}
 use Rattle.packet.specs.Octets.{words}
 use Rattle.packet.proofs.Octets.{length-words}
-use Rattle.status.specs.Status.{flagged, unwords}
+use Rattle.status.specs.Switches.{flagged, unwords}
 
 -- one number makes two octets
 pub length-unwords : (ns : List ℕ) → length (unwords ns) ≡ 2 * length ns

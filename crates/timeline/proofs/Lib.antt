@@ -1,1 +1,1 @@
-pub mod Inserts
+pub mod Ends

@@ -1,6 +1,7 @@
 -- Making a command pending
-use Rattle.std.specs.Prelude.{ℕ, ◌+◌, Bool, true, false, cond, List, length, Some, None, Ok, Err, Option, Result, nat_le, slice_set}
-use Rattle.schedule.specs.Command.{Command, pended}
+use Rattle.std.specs.Prelude.{ℕ, ◌+◌, Bool, cond, List, length, Some, Ok, Err, Option, Result, nat_le, slice_set}
+use Rattle.schedule.specs.declared.pending.Pending.{Pending}
+use Rattle.schedule.specs.Pending.{pended}
 use Rattle.schedule.specs.Slots.{first_free, pendings}
 use Rattle.timeline.specs.declared.insert_error.InsertError.{InsertError}
 use Rattle.timeline.specs.declared.insert_error.InsertError.TheVariants.{TagNotLater, NoFreeSlot, SerialsUsedUp}
@@ -19,7 +20,7 @@ judged_by late full out serial = cond late (Err TagNotLater) (cond full (Err NoF
 abbrev pub is_late : ℕ → ℕ → Bool
 is_late clock tag = nat_le tag clock
 
-abbrev pub is_full : List (Option Command) → Bool
+abbrev pub is_full : List (Option Pending) → Bool
 is_full xs = nat_le (length xs) (pendings xs)
 
 abbrev pub used_up : ℕ → Bool
@@ -29,7 +30,7 @@ abbrev pub insert_answer : ℕ → Plan → ℕ → Result ℕ InsertError
 insert_answer clock p tag = judged_by (is_late clock tag) (is_full p.slots) (used_up p.serials) (p.serials + 1)
 
 -- a command in the first free slot
-abbrev pub added : List (Option Command) → Command → List (Option Command)
+abbrev pub added : List (Option Pending) → Pending → List (Option Pending)
 added xs c = slice_set xs (first_free xs) (Some c)
 
 abbrev pub inserted : Plan → ℕ → ℕ → List ℕ → Plan

@@ -1,12 +1,12 @@
 -- What a timeline is, without its bit maps
-use Rattle.std.specs.Prelude.{ℕ, min, Bool, true, false, List, map, replicate, None, count_by, Option}
+use Rattle.std.specs.Prelude.{ℕ, min, Bool, false, List, map, replicate, None, count_by, Option}
 use Rattle.request.specs.declared.request.Cancel.{Cancel}
 use Rattle.request.specs.Request.{Named}
-use Rattle.status.specs.Status.{subschedules_on, apids_on, switched}
-use Rattle.schedule.specs.declared.slots.Scope.{Scope}
-use Rattle.schedule.specs.declared.slots.Scope.TheVariants.{All, Covered}
-use Rattle.schedule.specs.Command.{Command, commands}
-use Rattle.schedule.specs.Slots.{hit, dropped}
+use Rattle.status.specs.Status.{subschedules_on, apids_on}
+use Rattle.status.specs.Switches.{switched}
+use Rattle.schedule.specs.declared.pending.Pending.{Pending}
+use Rattle.schedule.specs.Covers.{covers}
+use Rattle.schedule.specs.Slots.{hit, dropped, each}
 use Rattle.timeline.specs.declared.timeline.Timeline.{Timeline}
 
 -- which numbers are enabled, how many serials were given, and what the slots hold
@@ -14,7 +14,7 @@ pub record Plan : Type 0 where
   pub subschedules : ℕ → Bool
   pub apids : ℕ → Bool
   pub serials : ℕ
-  pub slots : List (Option Command)
+  pub slots : List (Option Pending)
 
 abbrev pub plan_of : Timeline → Plan
 plan_of t =
@@ -22,7 +22,7 @@ plan_of t =
       subschedules = subschedules_on t.status;
       apids = apids_on t.status;
       serials = t.serials;
-      slots = commands t.slots.now;
+      slots = t.slots.now;
     }
 
 -- a new timeline where n slots are lent: everything disabled, no serial given, and its slots, at most 256, empty
@@ -40,13 +40,13 @@ switched_by p n on =
     }
 
 -- how many pending commands are to end
-abbrev pub covered : Scope → Plan → ℕ
-covered s p = count_by (hit s) p.slots
+abbrev pub covered : (Pending → Bool) → Plan → ℕ
+covered ends p = count_by (hit ends) p.slots
 
 abbrev pub cancelled : Plan → Cancel → Plan
 cancelled p r =
-    record { subschedules = p.subschedules; apids = p.apids; serials = p.serials; slots = map (dropped (Covered r)) p.slots }
+    record { subschedules = p.subschedules; apids = p.apids; serials = p.serials; slots = map (dropped (covers r)) p.slots }
 
 -- no command pending and nothing enabled
 abbrev pub wiped : Plan → Plan
-wiped p = record { subschedules = λ _. false; apids = λ _. false; serials = p.serials; slots = map (dropped All) p.slots }
+wiped p = record { subschedules = λ _. false; apids = λ _. false; serials = p.serials; slots = map (dropped each) p.slots }

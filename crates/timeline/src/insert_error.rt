@@ -1,15 +1,15 @@
 ghost use Rattle.std.specs.Prelude.{◌≡◌};
 ghost use Rattle.timeline.specs.Insert.{insert_code};
 
-/// Why a command could not be made pending.
+/// Why a command could not be made pending, with the code by which a report names it.
 #[derive(Clone, Copy)]
 pub enum InsertError {
     /// Its tag is not later than the clock.
-    TagNotLater,
+    TagNotLater = 21,
     /// As many commands are pending as there are slots.
-    NoFreeSlot,
+    NoFreeSlot = 22,
     /// Every serial has been given.
-    SerialsUsedUp,
+    SerialsUsedUp = 23,
 }
 
 impl InsertError {
@@ -17,10 +17,6 @@ impl InsertError {
     pub fn code(self) -> u16
         ensures { result ≡ insert_code self }
     {
-        match self {
-            InsertError::TagNotLater => 21,
-            InsertError::NoFreeSlot => 22,
-            InsertError::SerialsUsedUp => 23,
-        }
+        self as u16
     }
 }

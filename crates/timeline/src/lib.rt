@@ -2,5 +2,6 @@
 
 #![tactic(auto)]
 
+mod end_all;
 pub mod insert_error;
 pub mod timeline;

@@ -2,65 +2,77 @@
 
 #![tactic(auto)]
 
+ghost use Rattle.std.specs.Prelude.{length};
+ghost use Rattle.std.specs.Iterator.{at_most};
+
 use digits::hex::Hex;
-use history::call::{Call, Note, Reply};
-use report::read_report;
+use history::call::{Call, Entry, Reply};
+use report::{Report, read_report};
 use service::answer::{Answer, Outcome};
 use std::fmt;
-use words::{Asked, Failure, Said, Seconds, WhyRefused};
+use words::{Asked, Said, Seconds, WhyRefused, WhyRejected};
 
 /// All calls made for a script and what they were answered, shown as the lines to print.
-#[derive(Drop)]
+#[derive(Clone, Copy)]
 pub struct Transcript<'a, 'o> {
     // how many of the calls stand in the script itself
     scripted: usize,
     accepts: &'a [&'o [u8]],
-    calls: &'a [Call<'o>],
-    notes: &'a [Note],
+    entries: &'a [Entry<'o>],
 }
 
 impl<'a, 'o> Transcript<'a, 'o> {
-    /// The transcript of calls, of which the first `scripted` stand in a script, with the octets
-    /// of its acceptances.
+    /// The transcript of the calls made, of which the first `scripted` stand in a script, with
+    /// the octets of its acceptances.
     pub fn new(
         scripted: usize,
         accepts: &'a [&'o [u8]],
-        calls: &'a [Call<'o>],
-        notes: &'a [Note],
+        entries: &'a [Entry<'o>],
     ) -> Transcript<'a, 'o> {
         Transcript {
             scripted,
             accepts,
-            calls,
-            notes,
+            entries,
         }
     }
 
-    // The octets that a completion is about.
-    fn accepted(&self, number: usize) -> &'o [u8] {
-        match self.accepts.get(number.wrapping_sub(1)) {
-            Some(octets) => *octets,
-            None => &[],
+    // The octets of the request that a call is about.
+    fn request(&self, call: Call<&'o [u8]>) -> &'o [u8] {
+        match call {
+            Call::Request(octets) | Call::Accept(octets) => octets,
+            Call::Complete(number) => match self.accepts.get(number.wrapping_sub(1)) {
+                Some(octets) => *octets,
+                None => &[],
+            },
+            Call::SetClock(_) => &[],
         }
     }
 }
 
 impl fmt::Display for Transcript<'_, '_> {
     fn fmt<W: fmt::Write>(&self, f: &mut fmt::Formatter<W>) -> fmt::Result {
+        // counted by hand: calls printed and acceptances asked for each have their own numbers
         let mut number: usize = 0;
-        let mut accepts: usize = 0;
-        for (i, (call, note)) in self.calls.iter().zip(self.notes.iter()).enumerate() {
+        let mut acceptance: usize = 0;
+        for (i, entry) in self.entries.iter().enumerate() {
+            if matches!(entry.call, Call::Accept(_)) {
+                acceptance = acceptance.saturating_add(1);
+            }
+            let Some(reply) = entry.reply else { continue };
             // of the completions at the end, those of requests that had ended
-            if i >= self.scripted && matches!(note.reply, Reply::NoSuchRequest) {
+            if i >= self.scripted && matches!(reply, Reply::NoSuchRequest) {
                 continue;
             }
             number = number.saturating_add(1);
-            if matches!(*call, Call::Accept(_)) {
-                accepts = accepts.saturating_add(1);
-            }
-            write!(f, "{number} ")?;
-            write_answer(f, self, *call, note, accepts)?;
-            write_reports(f, note)?;
+            let call = Printed {
+                number,
+                call: entry.call,
+                request: Asked(self.request(entry.call)),
+                acceptance,
+                reply,
+                area: entry.area.as_slice(),
+            };
+            write!(f, "{call}")?;
         }
         f.write_str(
             "total inserted 0 pending 0 released 0 cancelled 0 passed over 0 undeliverable 0 waiting 0\n",
@@ -68,123 +80,124 @@ impl fmt::Display for Transcript<'_, '_> {
     }
 }
 
-// What follows the number of a call on its line.
-fn write_answer<W: fmt::Write>(
-    f: &mut fmt::Formatter<W>,
-    transcript: &Transcript<'_, '_>,
-    call: Call<'_>,
-    note: &Note,
-    accepts: usize,
-) -> fmt::Result {
-    match note.reply {
-        Reply::Answered(answer) => {
-            write_outcome(f, answer, note.area.as_slice())?;
-            write_asked(f, transcript, call, accepts, answer.outcome)
+// A call, shown as its line and the lines of the reports that it wrote.
+#[derive(Clone, Copy)]
+struct Printed<'a, 'o> {
+    number: usize,
+    call: Call<&'o [u8]>,
+    // the request that it is about, and how many acceptances were asked for until then
+    request: Asked<'o>,
+    acceptance: usize,
+    reply: Reply,
+    area: &'a [u8],
+}
+
+impl fmt::Display for Printed<'_, '_> {
+    fn fmt<W: fmt::Write>(&self, f: &mut fmt::Formatter<W>) -> fmt::Result {
+        write!(f, "{} ", self.number)?;
+        match self.reply {
+            Reply::Answered(answer) => self.write_answer(f, answer)?,
+            Reply::ClockSet => self.write_clock(f)?,
+            Reply::Refused(refusal) => {
+                let why = WhyRefused(refusal);
+                write!(
+                    f,
+                    "refused {} ; {why}; nothing has changed",
+                    refusal.number()
+                )?;
+            }
+            Reply::NoSuchRequest => self.write_missing(f)?,
         }
-        Reply::ClockSet => write_clock(f, call),
-        Reply::Refused(refusal) => {
-            let number = refusal.number();
-            let why = WhyRefused(refusal);
-            writeln!(f, "refused {number} ; {why}; nothing has changed")
-        }
-        Reply::NoSuchRequest => write_missing(f, call),
+        f.write_str("\n")?;
+        self.write_reports(f)
     }
 }
 
-fn write_outcome<W: fmt::Write>(
-    f: &mut fmt::Formatter<W>,
-    answer: Answer,
-    area: &[u8],
-) -> fmt::Result {
-    match answer.outcome {
-        Outcome::Accepted => f.write_str("accepted ; "),
-        Outcome::Done(value) => write!(f, "done {value} ; "),
-        Outcome::Rejected(code) => {
-            write!(f, "failed 1,2 code {code} ; ")?;
-            match read_report(area) {
-                Some(report) => {
-                    let failure = Failure::of(report.body);
-                    write!(f, "{failure}")
-                }
-                None => f.write_str("not accepted"),
+impl Printed<'_, '_> {
+    fn write_answer<W: fmt::Write>(
+        &self,
+        f: &mut fmt::Formatter<W>,
+        answer: Answer,
+    ) -> fmt::Result {
+        match answer.outcome {
+            Outcome::Accepted => f.write_str("accepted ; ")?,
+            Outcome::Done(value) => write!(f, "done {value} ; ")?,
+            Outcome::Rejected(rejection) => {
+                let why = WhyRejected(rejection);
+                return write!(f, "failed 1,2 code {} ; {why}", answer.outcome.value());
             }
         }
+        let asked = self.request;
+        match self.call {
+            Call::Request(_) => write!(f, "{asked}"),
+            Call::Accept(_) => {
+                write!(
+                    f,
+                    "{asked}, still to be completed as request {}",
+                    self.acceptance
+                )
+            }
+            Call::Complete(number) => write!(f, "{asked}, completes request {number}"),
+            Call::SetClock(_) => Ok(()),
+        }
+    }
+
+    fn write_clock<W: fmt::Write>(&self, f: &mut fmt::Formatter<W>) -> fmt::Result {
+        match self.call {
+            Call::SetClock(time) => write!(f, "clock {time} ; clock at {}", Seconds(time)),
+            _ => Ok(()),
+        }
+    }
+
+    fn write_missing<W: fmt::Write>(&self, f: &mut fmt::Formatter<W>) -> fmt::Result {
+        f.write_str("no such request")?;
+        match self.call {
+            Call::Complete(number) => write!(
+                f,
+                " ; request {number} was never accepted, or has been completed"
+            ),
+            _ => Ok(()),
+        }
+    }
+
+    // The octets of the reports that the call wrote.
+    fn written(&self) -> &[u8] {
+        match self.reply {
+            Reply::Answered(answer) => self.area.get(..answer.written).unwrap_or(&[]),
+            _ => &[],
+        }
+    }
+
+    fn write_reports<W: fmt::Write>(&self, f: &mut fmt::Formatter<W>) -> fmt::Result {
+        for (report, octets) in Reports(self.written()) {
+            let octets = Hex(octets);
+            let said = Said(report);
+            writeln!(
+                f,
+                "  {},{} {octets} ; {said}",
+                report.service, report.subtype
+            )?;
+        }
+        Ok(())
     }
 }
 
-// What the request of a call asked for, where it was accepted.
-fn write_asked<W: fmt::Write>(
-    f: &mut fmt::Formatter<W>,
-    transcript: &Transcript<'_, '_>,
-    call: Call<'_>,
-    accepts: usize,
-    outcome: Outcome,
-) -> fmt::Result {
-    if matches!(outcome, Outcome::Rejected(_)) {
-        return f.write_str("\n");
-    }
-    match call {
-        Call::Request(octets) => {
-            let asked = Asked(octets);
-            writeln!(f, "{asked}")
-        }
-        Call::Accept(octets) => {
-            let asked = Asked(octets);
-            writeln!(f, "{asked}, still to be completed as request {accepts}")
-        }
-        Call::Complete(number) => {
-            let asked = Asked(transcript.accepted(number));
-            writeln!(f, "{asked}, completes request {number}")
-        }
-        Call::SetClock(_) => f.write_str("\n"),
-    }
-}
+// The reports that stand one directly after another, each with its octets.
+#[derive(Drop)]
+struct Reports<'a>(&'a [u8]);
 
-fn write_clock<W: fmt::Write>(f: &mut fmt::Formatter<W>, call: Call<'_>) -> fmt::Result {
-    match call {
-        Call::SetClock(time) => {
-            let seconds = Seconds(time);
-            writeln!(f, "clock {time} ; clock at {seconds}")
+impl<'a> Iterator for Reports<'a> {
+    type Item = (Report<'a>, &'a [u8]);
+
+    ghost remaining = { λ s. at_most (length s.0.now) };
+
+    fn next(&mut self) -> Option<(Report<'a>, &'a [u8])> {
+        let report = read_report(self.0)?;
+        if report.size == 0 || report.size > self.0.len() {
+            return None;
         }
-        _ => f.write_str("\n"),
+        let (octets, rest) = self.0.split_at(report.size);
+        self.0 = rest;
+        Some((report, octets))
     }
-}
-
-fn write_missing<W: fmt::Write>(f: &mut fmt::Formatter<W>, call: Call<'_>) -> fmt::Result {
-    match call {
-        Call::Complete(number) => writeln!(
-            f,
-            "no such request ; request {number} was never accepted, or has been completed"
-        ),
-        _ => f.write_str("no such request\n"),
-    }
-}
-
-// The octets of the reports that a call wrote.
-fn written(note: &Note) -> &[u8] {
-    match note.reply {
-        Reply::Answered(answer) => match note.area.as_slice().get(..answer.written) {
-            Some(octets) => octets,
-            None => &[],
-        },
-        _ => &[],
-    }
-}
-
-// A line for each report that a call wrote.
-fn write_reports<W: fmt::Write>(f: &mut fmt::Formatter<W>, note: &Note) -> fmt::Result {
-    let mut rest = written(note);
-    while let Some(report) = read_report(rest) {
-        if report.size == 0 || report.size > rest.len() {
-            break;
-        }
-        let (octets, more) = rest.split_at(report.size);
-        let service = report.service;
-        let subtype = report.subtype;
-        let octets = Hex(octets);
-        let said = Said(report);
-        writeln!(f, "  {service},{subtype} {octets} ; {said}")?;
-        rest = more;
-    }
-    Ok(())
 }

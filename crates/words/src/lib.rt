@@ -2,9 +2,11 @@
 
 #![tactic(auto)]
 
-use report::Report;
+use packet::{Failure, Fault};
+use report::{Report, ReportKind, Stamp};
 use request::read::read_request;
-use request::request::{Names, Request};
+use request::rejection::Rejection;
+use request::request::Request;
 use service::answer::Refusal;
 use std::fmt;
 
@@ -37,29 +39,19 @@ struct Numbers<'a> {
 
 impl fmt::Display for Numbers<'_> {
     fn fmt<W: fmt::Write>(&self, f: &mut fmt::Formatter<W>) -> fmt::Result {
-        let what = self.what;
-        let count = self.octets.len() / 2;
-        let plural = if count == 1 { "" } else { "s" };
-        write!(f, "{count} {what}{plural}")?;
-        for (i, pair) in self.octets.chunks_exact(2).enumerate() {
+        let (numbers, _) = self.octets.as_chunks::<2>();
+        let plural = if numbers.len() == 1 { "" } else { "s" };
+        write!(f, "{} {}{plural}", numbers.len(), self.what)?;
+        for (i, number) in numbers.iter().enumerate() {
             let before = if i == 0 { " (" } else { ", " };
-            let number = word_at(pair, 0);
-            write!(f, "{before}{number}")?;
+            write!(f, "{before}{}", u16::from_be_bytes(*number))?;
         }
-        if count == 0 { Ok(()) } else { f.write_str(")") }
+        if numbers.is_empty() {
+            Ok(())
+        } else {
+            f.write_str(")")
+        }
     }
-}
-
-fn write_names<W: fmt::Write>(f: &mut fmt::Formatter<W>, verb: &str, names: Names) -> fmt::Result {
-    let subschedules = Numbers {
-        what: "subschedule",
-        octets: names.subschedules,
-    };
-    let apids = Numbers {
-        what: "APID",
-        octets: names.apids,
-    };
-    write!(f, "{verb} {subschedules}, {apids}")
 }
 
 /// The octets of a request, shown as what it asks for.
@@ -71,74 +63,78 @@ impl fmt::Display for Asked<'_> {
         let Ok(telecommand) = read_request(self.0) else {
             return f.write_str("no request");
         };
-        match telecommand.request {
-            Request::Enable(names) => write_names(f, "enable", names),
-            Request::Disable(names) => write_names(f, "disable", names),
-            Request::Status(names) => write_names(f, "status of", names),
-            Request::ConnectionTest => f.write_str("connection test"),
-        }
+        let (verb, names) = match telecommand.request {
+            Request::Enable(names) => ("enable", names),
+            Request::Disable(names) => ("disable", names),
+            Request::Status(names) => ("status of", names),
+            Request::ConnectionTest => return f.write_str("connection test"),
+        };
+        let subschedules = Numbers {
+            what: "subschedule",
+            octets: names.subschedules,
+        };
+        let apids = Numbers {
+            what: "APID",
+            octets: names.apids,
+        };
+        write!(f, "{verb} {subschedules}, {apids}")
     }
 }
 
-/// A failure as its report carries it, shown as what is wrong with the request.
+/// A rejection, shown as what is wrong with the request.
 #[derive(Clone, Copy)]
-pub struct Failure {
-    pub code: u16,
-    pub a: u16,
-    pub b: u16,
-}
+pub struct WhyRejected(pub Rejection);
 
-impl Failure {
-    /// The failure that the body of a failure report carries.
-    pub fn of(body: &[u8]) -> Failure {
-        Failure {
-            code: word_at(body, 4),
-            a: word_at(body, 6),
-            b: word_at(body, 8),
-        }
-    }
-}
-
-impl fmt::Display for Failure {
+impl fmt::Display for WhyRejected {
     fn fmt<W: fmt::Write>(&self, f: &mut fmt::Formatter<W>) -> fmt::Result {
-        let code = self.code;
-        let a = self.a;
-        let b = self.b;
-        match code {
-            0 => write!(
-                f,
-                "not for this service: octets 0 to 3 are {a:04X} {b:04X}, wanted are 1810 and C000 or more"
-            ),
-            1 => write!(
-                f,
-                "wrong length: {a} octets came, and octets 4 and 5 say {b}; wanted are an even number from 12 to 248, and 7 less in octets 4 and 5"
-            ),
-            2 => write!(
-                f,
-                "damaged: the check field is {a:04X}, and {b:04X} is right for the other octets"
-            ),
-            3 => write!(f, "no request has type {a} (subtype {b})"),
-            4 => write!(f, "no request of type {a} has subtype {b}"),
-            5 => write_wrong_data(f, a, b),
-            6 => write!(
-                f,
-                "wrong data header: octets 6 to 9 are {a:04X} {b:04X}, wanted are 1 in the upper half of octet 6 and 00 in octet 9"
-            ),
-            _ => write!(f, "code {code}, A {a}, B {b}"),
+        match self.0 {
+            Rejection::Packet(fault) => write_fault(f, fault),
+            Rejection::UnknownType { service, subtype } => {
+                write!(f, "no request has type {service} (subtype {subtype})")
+            }
+            Rejection::UnknownSubtype { service, subtype } => {
+                write!(f, "no request of type {service} has subtype {subtype}")
+            }
+            Rejection::Field { octet, value } => write_wrong_data(f, octet, value),
         }
     }
 }
 
-fn write_wrong_data<W: fmt::Write>(f: &mut fmt::Formatter<W>, a: u16, b: u16) -> fmt::Result {
-    match (a, b) {
+fn write_fault<W: fmt::Write>(f: &mut fmt::Formatter<W>, fault: Fault) -> fmt::Result {
+    match fault {
+        Fault::Header { first, second } => write!(
+            f,
+            "not for this service: octets 0 to 3 are {first:04X} {second:04X}, wanted are 1810 and C000 or more"
+        ),
+        Fault::Length { octets, field } => write!(
+            f,
+            "wrong length: {octets} octets came, and octets 4 and 5 say {field}; wanted are an even number from 12 to 248, and 7 less in octets 4 and 5"
+        ),
+        Fault::CheckField { received, computed } => write!(
+            f,
+            "damaged: the check field is {received:04X}, and {computed:04X} is right for the other octets"
+        ),
+        Fault::DataHeader { first, second } => write!(
+            f,
+            "wrong data header: octets 6 to 9 are {first:04X} {second:04X}, wanted are 1 in the upper half of octet 6 and 00 in octet 9"
+        ),
+    }
+}
+
+fn write_wrong_data<W: fmt::Write>(
+    f: &mut fmt::Formatter<W>,
+    octet: u16,
+    value: u16,
+) -> fmt::Result {
+    match (octet, value) {
         (10, 0) => f.write_str("wrong data: no subschedule and no APID is named"),
         (10, _) => write!(
             f,
-            "wrong data: {b} octets of data are not as many as this request has"
+            "wrong data: {value} octets of data are not as many as this request has"
         ),
         _ => write!(
             f,
-            "wrong data: the number at octet {a} is {b}, which is out of range"
+            "wrong data: the number at octet {octet} is {value}, which is out of range"
         ),
     }
 }
@@ -157,24 +153,41 @@ impl fmt::Display for WhyRefused {
     }
 }
 
+// The upper bit of a word of a status report, set where the number in the others is enabled.
+const ENABLED: u16 = 1 << 15;
+
 fn write_status<W: fmt::Write>(f: &mut fmt::Formatter<W>, body: &[u8]) -> fmt::Result {
     f.write_str("status report")?;
-    let [subschedules, _, words @ ..] = body else {
+    let [subschedules, _, rest @ ..] = body else {
         return Ok(());
     };
-    for (i, pair) in words.chunks_exact(2).enumerate() {
+    let (words, _) = rest.as_chunks::<2>();
+    for (i, word) in words.iter().enumerate() {
         let before = if i == 0 { ":" } else { "," };
         let what = if i < *subschedules as usize {
             "subschedule"
         } else {
             "APID"
         };
-        let word = word_at(pair, 0);
-        let number = word % 32768;
-        let status = if word >= 32768 { "enabled" } else { "disabled" };
+        let word = u16::from_be_bytes(*word);
+        let number = word % ENABLED;
+        let status = if word >= ENABLED {
+            "enabled"
+        } else {
+            "disabled"
+        };
         write!(f, "{before} {what} {number} {status}")?;
     }
     Ok(())
+}
+
+// The failure that the body of a failure report carries.
+fn failure_in(body: &[u8]) -> Failure {
+    Failure {
+        code: word_at(body, 4),
+        a: word_at(body, 6),
+        b: word_at(body, 8),
+    }
 }
 
 /// A report, shown as what it says.
@@ -184,19 +197,26 @@ pub struct Said<'a>(pub Report<'a>);
 impl fmt::Display for Said<'_> {
     fn fmt<W: fmt::Write>(&self, f: &mut fmt::Formatter<W>) -> fmt::Result {
         let report = self.0;
-        match (report.service, report.subtype) {
-            (1, 1) => f.write_str("acceptance success")?,
-            (1, 2) => {
-                let Failure { code, a, b } = Failure::of(report.body);
+        match report.kind() {
+            Some(ReportKind::AcceptanceSuccess) => f.write_str("acceptance success")?,
+            Some(ReportKind::AcceptanceFailure) => {
+                let Failure { code, a, b } = failure_in(report.body);
                 write!(f, "acceptance failure, code {code}, A {a}, B {b}")?;
             }
-            (1, 7) => f.write_str("completion success")?,
-            (11, 19) => write_status(f, report.body)?,
-            (17, 2) => f.write_str("connection test report")?,
-            (service, subtype) => write!(f, "report of type {service}, subtype {subtype}")?,
+            Some(ReportKind::CompletionSuccess) => f.write_str("completion success")?,
+            Some(ReportKind::Status) => write_status(f, report.body)?,
+            Some(ReportKind::Connection) => f.write_str("connection test report")?,
+            None => write!(
+                f,
+                "report of type {}, subtype {}",
+                report.service, report.subtype
+            )?,
         }
-        let count = report.sequence_count;
-        let time = Seconds(report.clock);
-        write!(f, "; sequence count {count}, clock {time}")
+        let Stamp {
+            sequence_count,
+            clock,
+        } = report.stamp;
+        let time = Seconds(clock);
+        write!(f, "; sequence count {sequence_count}, clock {time}")
     }
 }

@@ -1,30 +1,45 @@
-use Rattle.std.proofs.Common.{ℕ, refl, ap}
-use Rattle.queue.specs.Rules.{carried}
-use Rattle.queue.specs.Queue.{carried_by, space_in, cause_of}
-use Rattle.queue.proofs.Step.{sound, step, space_is, answer_is, no_never, no_space}
-use Rattle.queue.proofs.Same.{same_queue}
+use Rattle.std.proofs.Common.{◌≡◌, ◌≤◌, ◌/◌, ◌%◌, [], ◌∷◌, length, refl, arith, rules}
+use Rattle.queue.proofs.Step.{is_carried, why_full, is_full, has_space, stepped}
 use Rattle.queue.proofs.QueueDestination.offer.Goals as goal
+
+pub returns-then-n-size-2 : goal.returns-then-n-size-2
+returns-then-n-size-2 c =
+    let q = c.args.self.now in
+    let p = c.args.packet.now in
+    let least : 12 ≤ length p = search rules in
+    let most : length p ≤ 228 = search rules in
+    let a = is_carried q p least most (omega arith) in
+    let y = why_full q p least most (omega arith) in
+    let b = is_full q p (omega arith) in
+    record { answer = simp (a, b, y); waiting = simp (a, b); fixed = λ p. refl; never = λ _. refl; not_now = λ _. refl }
 
 pub invariant_of-self : goal.invariant_of-self
 invariant_of-self c =
     let q = c.args.self.now in
     let p = c.args.packet.now in
-    let z = step q.inner c.push.new.self p (cause_of q p) c.push.result _ _ refl refl (sound q)
-    c.push.ensures.answer c.push.ensures.octets c.push.ensures.used c.push.ensures.same c.push.ensures.start c.push.ensures.size in
-    record { within = z.sound.within; place = z.sound.place; exact = z.sound.exact; fine = z.sound.fine }
+    let least : 12 ≤ length p = search rules in
+    let most : length p ≤ 228 = search rules in
+    let h : c.to_be_bytes-header.result ≡ length p / 256 ∷ length p % 256 ∷ [] = search rules in
+    let a = is_carried q p least most (omega arith) in
+    let s = stepped q _ p c.write.new.self c.write-2.new.self a (omega arith) h c.write.ensures c.write-2.ensures in
+    record { within = omega arith; exact = s.exact; fine = s.fine }
 
 pub returns : goal.returns
 returns c =
     let q = c.args.self.now in
     let p = c.args.packet.now in
-    let s = space_is q.inner p (sound q) in
-    let a = answer_is q.inner p (cause_of q p) c.push.result (sound q) c.push.ensures.answer in
-    let z = step q.inner c.push.new.self p (cause_of q p) c.push.result (carried_by q p) (space_in q p) refl s (sound q)
-    a c.push.ensures.octets c.push.ensures.used c.push.ensures.same c.push.ensures.start c.push.ensures.size in
+    let least : 12 ≤ length p = search rules in
+    let most : length p ≤ 228 = search rules in
+    let h : c.to_be_bytes-header.result ≡ length p / 256 ∷ length p % 256 ∷ [] = search rules in
+    let a = is_carried q p least most (omega arith) in
+    let b = has_space q p (omega arith) in
+    let s = stepped q _ p c.write.new.self c.write-2.new.self a (omega arith) h c.write.ensures c.write-2.ensures in
+    let g = s.waiting in
+    let z = s.size in
     record {
-      answer = a;
-      waiting = z.waiting;
-      fixed = λ w. ap (λ (n : ℕ). carried n w) c.push.ensures.size;
-      never = λ e. same_queue _ _ (c.push.ensures.same (no_never (carried_by q p) (space_in q p) (cause_of q p) c.push.result a e));
-      not_now = λ e. same_queue _ _ (c.push.ensures.same (no_space (carried_by q p) (space_in q p) (cause_of q p) c.push.result a e));
+      answer = simp (a, b);
+      waiting = simp (a, b, g);
+      fixed = λ p. simp z;
+      never = λ e. absurd (cc);
+      not_now = λ e. absurd (cc);
     }

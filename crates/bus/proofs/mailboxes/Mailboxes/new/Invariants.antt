@@ -1,7 +1,7 @@
-use Rattle.std.proofs.Common.{take}
+use Rattle.std.proofs.Common.{◌≡◌, take}
 use Rattle.bus.specs.Bus.{listed}
-use Rattle.bus.proofs.Fresh.{Given}
+use Rattle.bus.specs.Changes.{given}
 use Rattle.bus.proofs.mailboxes.Mailboxes.new.Given as goal
 
 abbrev pub invariant-loop-apid : goal.invariant-loop-apid
-invariant-loop-apid l = Given (listed (take l.apid-index l.apids)) l.boxes l.used
+invariant-loop-apid l = l.boxes ≡ given (listed (take l.apid-index l.apids))

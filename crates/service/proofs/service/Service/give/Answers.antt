@@ -7,29 +7,25 @@ use Rattle.status.specs.Status.{subschedules_on, apids_on}
 use Rattle.service.proofs.Lists.{fits_here, one_report}
 use Rattle.service.proofs.service.Service.give.Goals as goal
 
-pub returns : goal.returns
-returns c =
+pub returns-clause-gives : goal.returns-clause-gives
+returns-clause-gives c =
     let body : List ℕ = c.args.body.now in
     let room : ℕ = length c.args.part.now in
     let n : ℕ = c.args.self.now.report_count in
     let t : ℕ = c.args.self.now.clock in
     let content : Content = content_of c.args.kind body in
     let yes : fits room (length body) ≡ true = fits_here room (length body) (omega arith) (omega arith) in
-    let some : ◌≡◌ {A = Option ℕ} (Some c.in-Some.written) (Some (18 + length body)) =
-    c.in-Some.ensures.answer ∙ cond-true (fits room (length body)) (Some (18 + length body)) None yes in
-    let size : c.in-Some.written ≡ 18 + length body = cc in
+    let some : ◌≡◌ {A = Option ℕ} (Some c.unwrap.result) (Some (18 + length body)) =
+    sym c.unwrap.ensures ∙ (c.write.ensures.answer ∙ cond-true (fits room (length body)) (Some (18 + length body)) None yes) in
+    let size : c.unwrap.result ≡ 18 + length body = cc in
     let one = one_report n t content in
     record {
-      short = size;
-      gives =
-          record {
-            written = size ∙ sym (length-report n t content) ∙ ap length (sym one);
-            area =
-                c.in-Some.ensures.part
-                ∙ cond-true (fits room (length body)) (over (report_of n t content) c.args.part.now) c.args.part.now yes
-                ∙ ap (λ (w : List ℕ). over w c.args.part.now) (sym one);
-            state =
-                ap (λ (k : ℕ). record { clock = t; count = k; subschedules = subschedules_on c.args.self.now.status; apids = apids_on c.args.self.now.status })
-                (ap (λ (s : Stamp). s.sequence_count) c.next.ensures);
-          };
+      written = size ∙ sym (length-report n t content) ∙ ap length (sym one);
+      area =
+          c.write.ensures.part
+          ∙ cond-true (fits room (length body)) (over (report_of n t content) c.args.part.now) c.args.part.now yes
+          ∙ ap (λ (w : List ℕ). over w c.args.part.now) (sym one);
+      state =
+          ap (λ (k : ℕ). record { clock = t; count = k; subschedules = subschedules_on c.args.self.now.status; apids = apids_on c.args.self.now.status })
+          (ap (λ (s : Stamp). s.sequence_count) c.next.ensures);
     }
