@@ -7,7 +7,8 @@ use Rattle.std.proofs.lemmas.List.Folds.{list_all-append, position_or_len-set}
 use Rattle.std.proofs.lemmas.Bool.{cases_eq}
 use Rattle.bus.specs.declared.mailbox.Held.{Held}
 use Rattle.bus.specs.declared.mailbox.Mailbox.{Mailbox}
-use Rattle.bus.specs.Bus.{no_box, apid_of, home, is_for, is_full, octets_of, held, filled, of_rank, waiting_in, apids_in, carried}
+use Rattle.packet.specs.Packet.{apid_of}
+use Rattle.bus.specs.Bus.{no_box, home, is_for, is_full, octets_of, held, filled, of_rank, waiting_in, apids_in, carried}
 use Rattle.bus.specs.Changes.{holding, moved_up, lowered}
 use Rattle.bus.specs.Kept.{Homed, Sound}
 use Rattle.bus.proofs.Ranks.{ranked_set, waits_set, ranked_lower, waits_lower}

@@ -9,7 +9,8 @@ use Rattle.std.proofs.lemmas.Bool.{eq-eqb, eqb-true, cases_lt}
 use Rattle.std.proofs.lemmas.Bool.Decides.{nat_tests}
 use Rattle.std.specs.Cmp.{both_ways}
 use Rattle.bus.specs.declared.mailbox.Mailbox.{Mailbox}
-use Rattle.bus.specs.Bus.{no_box, apid_of, is_in, held, home, space, is_full, has_rank, filled, of_rank, waiting_in}
+use Rattle.packet.specs.Packet.{apid_of}
+use Rattle.bus.specs.Bus.{no_box, is_in, held, home, space, is_full, has_rank, filled, of_rank, waiting_in}
 use Rattle.bus.specs.Kept.{Sound}
 use Rattle.bus.proofs.Ranks.{full_ranked, held_rank, ranked_at, only_rank, rank_filled}
 use Rattle.bus.proofs.Homes.{home_apid}

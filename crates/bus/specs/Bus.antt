@@ -1,13 +1,11 @@
 -- The bus: a mailbox for each listed APID, which holds one packet at most
-use Rattle.std.specs.Prelude.{ℕ, ◌+◌, ◌*◌, ◌%◌, Bool, false, cond, not, ◌&&◌, List, [], ◌∷◌, ◌++◌, map, length, fold, count_by, Some, None, Option, ◌==◌, nat_eq, nat_le, nat_lt, slice_index, slice_index_or}
+use Rattle.std.specs.Prelude.{ℕ, Bool, false, cond, not, ◌&&◌, List, [], ◌∷◌, ◌++◌, map, length, fold, count_by, Some, None, Option, ◌==◌, nat_eq, nat_le, nat_lt, slice_index_or}
 use Rattle.std.specs.List.{list_any, flat_map, position_or_len, range_with_len}
 use Rattle.std.specs.Option.{is_none, is_some, option_eq, option_to_list}
+use Rattle.destination.specs.Destination.{sized}
+use Rattle.packet.specs.Packet.{apid_of}
 use Rattle.bus.specs.declared.mailbox.Held.{Held}
 use Rattle.bus.specs.declared.mailbox.Mailbox.{Mailbox}
-
--- a packet's APID: the lower 11 bits of octets 0 and 1
-abbrev pub apid_of : List ℕ → ℕ
-apid_of p = (slice_index p 0 * 256 + slice_index p 1) % 2048
 
 abbrev pub is_in : ℕ → List ℕ → Bool
 is_in a list = list_any (λ x. x == a) list
@@ -24,9 +22,6 @@ abbrev pub listed : List ℕ → List ℕ
 listed numbers = fold with_one [] numbers
 
 -- a bus with this list carries 12 to 228 octets for a listed APID
-abbrev pub sized : List ℕ → Bool
-sized p = nat_le 12 (length p) && nat_le (length p) 228
-
 abbrev pub carried : List ℕ → List ℕ → Bool
 carried list p = sized p && is_in (apid_of p) list
 

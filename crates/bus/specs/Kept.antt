@@ -2,7 +2,8 @@
 use Rattle.std.specs.Prelude.{◌≡◌, ℕ, true, cond, List, count_by, nat_lt, slice_index_or}
 use Rattle.std.specs.List.{list_all}
 use Rattle.bus.specs.declared.mailbox.Mailbox.{Mailbox}
-use Rattle.bus.specs.Bus.{no_box, apid_of, apids_in, carried, held, home, is_full, has_rank, filled, waiting_in}
+use Rattle.packet.specs.Packet.{apid_of}
+use Rattle.bus.specs.Bus.{no_box, apids_in, carried, held, home, is_full, has_rank, filled, waiting_in}
 
 -- each rank below the number filled is the rank of one mailbox, and any other of none
 abbrev pub Ranked : List Mailbox → Type 0

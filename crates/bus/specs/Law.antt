@@ -6,7 +6,8 @@ use Rattle.std.proofs.lemmas.List.Sums.{sum_by-cons}
 use Rattle.std.proofs.lemmas.Bool.Decides.{nat_tests}
 use Rattle.destination.specs.Destination.{Laws}
 use Rattle.bus.specs.declared.mailbox.Mailbox.{Mailbox}
-use Rattle.bus.specs.Bus.{no_box, is_full, filled, of_rank, waiting_in, apid_of, apids_in, carried, why, home, space}
+use Rattle.packet.specs.Packet.{apid_of}
+use Rattle.bus.specs.Bus.{no_box, is_full, filled, of_rank, waiting_in, apids_in, carried, why, home, space}
 use Rattle.bus.specs.Kept.{Carried}
 
 pub count_cons : {X : Type 0} (f : X → Bool) (x : X) (xs : List X) → count_by f (x ∷ xs) ≡ cond (f x) 1 0 + count_by f xs

@@ -1,4 +1,4 @@
-ghost use Rattle.std.specs.Prelude.{◌≡◌};
+ghost use Rattle.std.specs.Prelude.{◌≡◌, map};
 ghost use Rattle.bus.specs.Arrival.{rank_of, Oldest};
 ghost use Rattle.bus.specs.Kept.{Ranked};
 
@@ -12,20 +12,17 @@ pub struct Arrivals<'a> {
 }
 
 impl Places for Arrivals<'_> {
-    type Place = Mailbox;
-
     type Key = u8;
 
-    ghost places = { λ a. a.boxes.now };
+    ghost keys = { λ a. map rank_of a.boxes.now };
 
-    ghost key = { λ a. rank_of };
-
-    fn places(&self) -> &[Mailbox] {
-        self.boxes
+    fn count(&self) -> usize {
+        self.boxes.len()
     }
 
-    fn key_of(&self, mailbox: &Mailbox) -> Option<u8> {
-        mailbox.packet.map(|packet| packet.rank)
+    fn key_at(&self, place: usize) -> Option<u8> {
+        let held = self.boxes.get(place)?.packet.as_ref()?;
+        Some(held.rank)
     }
 }
 

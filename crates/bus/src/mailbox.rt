@@ -1,7 +1,7 @@
 ghost use Rattle.std.specs.Prelude.{◌≡◌, ◌≤◌, map, length};
 ghost use Rattle.std.specs.List.{position};
 ghost use Rattle.destination.specs.Destination.{laid};
-ghost use Rattle.bus.specs.Bus.{apid_of, held, is_full, is_unused, is_for, filled};
+ghost use Rattle.bus.specs.Bus.{is_full, is_unused, is_for, filled};
 ghost use Rattle.bus.specs.Changes.{fresh, holding, lowered};
 
 use destination::LONGEST;
@@ -13,6 +13,19 @@ pub struct Held {
     // its place in arrival, 0 for the oldest
     pub(crate) rank: u8,
     pub(crate) octets: Octets<LONGEST>,
+}
+
+impl Held {
+    /// Copies the packet to the start of the area, and answers its length.
+    pub(crate) fn copy_to(&self, area: &mut [u8]) -> usize
+        requires { 228 ≤ length area.old }
+        ensures answer { result ≡ length self.now.octets }
+        ensures area { area.new ≡ laid self.now.octets area.old }
+    {
+        let octets = self.octets.as_slice();
+        area[..octets.len()].copy_from_slice(octets);
+        octets.len()
+    }
 }
 
 /// A mailbox: at most one packet, for one APID.
@@ -72,27 +85,6 @@ impl Mailbox {
             None => self.packet = None,
         }
     }
-
-    /// Copies the packet to the start of the area, and answers its length.
-    pub(crate) fn copy_to(&self, area: &mut [u8]) -> usize
-        requires { 228 ≤ length area.old }
-        ensures answer { result ≡ length (held self.now) }
-        ensures area { area.new ≡ laid (held self.now) area.old }
-    {
-        let Some(packet) = &self.packet else {
-            return 0;
-        };
-        let octets = packet.octets.as_slice();
-        area[..octets.len()].copy_from_slice(octets);
-        octets.len()
-    }
-}
-
-pub(crate) fn apid_of(packet: &[u8]) -> u16
-    requires { 2 ≤ length packet.now }
-    ensures { result ≡ apid_of packet.now }
-{
-    u16::from_be_bytes([packet[0], packet[1]]) % 2048
 }
 
 /// The place of an APID's mailbox.

@@ -5,8 +5,9 @@ ghost use Rattle.bus.specs.Changes.{place_for, given as given_for};
 ghost use Rattle.bus.specs.Kept.{Sound};
 
 use crate::arrival::oldest;
-use crate::mailbox::{Mailbox, apid_of, count_filled, find, find_unused, lower_ranks};
-use destination::{LONGEST, Refused, SHORTEST};
+use crate::mailbox::{Mailbox, count_filled, find, find_unused, lower_ranks};
+use destination::{LONGEST, Refused, check_length};
+use packet::apid_of;
 
 /// Why a packet is refused.
 enum Cause {
@@ -14,8 +15,6 @@ enum Cause {
     Filled = 3,
     /// Its APID is not listed.
     NotListed = 4,
-    /// Its length is out of bounds.
-    BadLength = 5,
 }
 
 /// The mailboxes, with no invariant of their own, so that one may be lent.
@@ -56,9 +55,7 @@ impl Mailboxes {
         ensures not_now { space self.old.boxes packet.now ≡ false → self.new ≡ self.old }
         ensures sound { Sound self.new.boxes }
     {
-        if !(SHORTEST..=LONGEST).contains(&packet.len()) {
-            return Err(Refused::Never(Cause::BadLength as u16));
-        }
+        check_length(packet)?;
         let unlisted = Refused::Never(Cause::NotListed as u16);
         let place = find(&self.boxes, apid_of(packet)).ok_or(unlisted)?;
         if self.boxes[place].is_full() {
@@ -86,7 +83,8 @@ impl Mailboxes {
         let Some(place) = oldest(&self.boxes) else {
             return 0;
         };
-        let n = self.boxes[place].copy_to(area);
+        let held = self.boxes[place].packet.as_ref().unwrap();
+        let n = held.copy_to(area);
         lower_ranks(&mut self.boxes);
         n
     }

@@ -1,8 +1,12 @@
 -- What a destination means: packets waiting, a fixed yes or no whether it carries a packet, a present one whether it has space
-use Rattle.std.specs.Prelude.{◌≡◌, List, [], ◌∷◌, ◌++◌, Bool, true, cond, ℕ, ◌≤◌, ◌<◌, length, drop, ltb, slice_index_or, Ok, Err, Result}
+use Rattle.std.specs.Prelude.{◌≡◌, List, [], ◌∷◌, ◌++◌, Bool, true, cond, ◌&&◌, ℕ, ◌≤◌, ◌<◌, length, nat_le, drop, ltb, slice_index_or, Ok, Err, Result}
 use Rattle.std.specs.List.{list_all}
 use Rattle.destination.specs.declared.Refused.{Refused}
 use Rattle.destination.specs.declared.Refused.TheVariants.{NotNow, Never}
+
+-- the lengths that a destination may carry: 12 to 228 octets
+abbrev pub sized : List ℕ → Bool
+sized p = nat_le 12 (length p) && nat_le (length p) 228
 
 -- the answer to an offer: is it carried, is there space
 abbrev pub offered : Bool → Bool → ℕ → Result (Unit {0}) Refused

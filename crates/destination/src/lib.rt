@@ -2,8 +2,8 @@
 
 #![tactic(auto)]
 
-ghost use Rattle.std.specs.Prelude.{◌≡◌, Bool, false, List, [], ℕ, ◌<◌, length};
-ghost use Rattle.destination.specs.Destination.{Laws, offered, waiting_after, given, left, laid};
+ghost use Rattle.std.specs.Prelude.{◌≡◌, Bool, true, false, List, [], ℕ, ◌<◌, length};
+ghost use Rattle.destination.specs.Destination.{Laws, sized, offered, waiting_after, given, left, laid};
 
 /// The shortest packet that a destination may carry.
 pub const SHORTEST: usize = 12;
@@ -19,6 +19,23 @@ pub enum Refused {
     NotNow(u16),
     /// It is never carried.
     Never(u16),
+}
+
+/// A cause that all kinds share.
+enum Cause {
+    /// Its length is out of bounds.
+    BadLength = 5,
+}
+
+/// Refuses a packet whose length no destination carries.
+pub fn check_length(packet: &[u8]) -> Result<(), Refused>
+    ensures { result ≡ offered (sized packet.now) true 5 }
+{
+    if (SHORTEST..=LONGEST).contains(&packet.len()) {
+        Ok(())
+    } else {
+        Err(Refused::Never(Cause::BadLength as u16))
+    }
 }
 
 /// A destination: packets wait in it, the oldest first.
@@ -57,6 +74,7 @@ pub trait Destination {
 
     /// Copies the oldest packet to the start of the area and lets it go; answers its length. With
     /// fewer than 228 octets in the area, or nothing waiting, answers 0 and changes nothing.
+    // a number and no `Option`: the rules fix what is answered
     fn take(&mut self, area: &mut [u8]) -> usize
         ensures answer { result ≡ length (given (length area.old) (waiting self.old)) }
         ensures area { area.new ≡ laid (given (length area.old) (waiting self.old)) area.old }

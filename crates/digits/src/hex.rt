@@ -21,6 +21,7 @@ pub enum HexError {
     OutOfMemory,
 }
 
+// By hand: clauses name what `?` makes of an error, and a derived `From` has no contract.
 impl From<AllocError> for HexError {
     ghost from_gives = { λ _ r. r ≡ OutOfMemory };
 
@@ -29,6 +30,7 @@ impl From<AllocError> for HexError {
     }
 }
 
+// By hand for the same reason.
 impl<T: Drop> From<AllocFailed<T>> for HexError {
     ghost from_gives = { λ _ r. r ≡ OutOfMemory };
 
@@ -42,13 +44,7 @@ pub fn digit_value(digit: u8) -> Option<u8>
     ensures value { result ≡ digit_of digit }
     ensures small { IfSome result (λ v. v < 16) }
 {
-    // `char::to_digit` is no plainer: it wants casts to a char and from a u32
-    match digit {
-        b'0'..=b'9' => Some(digit - b'0'),
-        b'A'..=b'F' => Some(digit - b'A' + 10),
-        b'a'..=b'f' => Some(digit - b'a' + 10),
-        _ => None,
-    }
+    char::from(digit).to_digit(16).map(|value| value as u8)
 }
 
 /// The octet that two hexadecimal digits write, the upper half first.

@@ -11,6 +11,7 @@ use packet::Failure;
 use request::read::read_request;
 
 /// The code of a request that passes; no failure has it.
+// A number and no `Option`: C reads a number.
 pub const PASSED: u16 = 65535;
 
 /// What the request check answers: a failure's code with its A and B, or

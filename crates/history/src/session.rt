@@ -68,7 +68,8 @@ impl<'a> Session<'a> {
         };
         match self.service.complete(request, area) {
             Ok(completed) => Reply::Answered(completed.answer()),
-            // there was room
+            // there was room; no `unwrap`, since the error holds an accepted request, which may
+            // not be dropped
             Err(_request) => unreachable(),
         }
     }
@@ -108,6 +109,8 @@ impl Session<'_> {
             if let Some(request) = slot {
                 match service.complete(request, &mut area[..]) {
                     Ok(_) => completed += 1,
+                    // there was room; no `unwrap`, since the error holds an accepted request,
+                    // which may not be dropped
                     Err(_request) => unreachable(),
                 }
             }

@@ -51,6 +51,7 @@ pub record Fields : Type 0 where
   pub subtype : ℕ
   pub body : List ℕ
 
+-- the lower 11 bits of octets 0 and 1
 abbrev pub apid_of : List ℕ → ℕ
 apid_of p = word_at p 0 % 2048
 

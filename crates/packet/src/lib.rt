@@ -4,7 +4,7 @@
 
 ghost use Rattle.std.specs.Prelude.{◌≡◌, ℕ, ◌+◌, ◌-◌, ◌≤◌, cond, length, take, IfOk, Ok, Err};
 ghost use Rattle.packet.specs.Octets.{word_at};
-ghost use Rattle.packet.specs.Packet.{most_of, admits, fault_failure, length_right, length_fault, read_of, meant};
+ghost use Rattle.packet.specs.Packet.{most_of, admits, fault_failure, length_right, length_fault, apid_of, read_of, meant};
 
 use check_field::check_field;
 
@@ -108,6 +108,14 @@ fn length_is_right(octets: &[u8], role: Role) -> bool
     n <= role.most() && n % 2 == 0 && field as usize + 7 == n
 }
 
+/// The APID in octets 0 and 1, missing ones as zero.
+pub fn apid_of(octets: &[u8]) -> u16
+    ensures { result ≡ apid_of octets.now }
+{
+    let octet = |place: usize| octets.get(place).copied().unwrap_or(0);
+    u16::from_be_bytes([octet(0), octet(1)]) % 2048
+}
+
 /// Reads a packet, or says the first thing that is wrong with it: length,
 /// check field, header, data header, in this order.
 pub fn read<'a>(octets: &'a [u8], role: Role) -> Result<Packet<'a>, Fault>
@@ -142,7 +150,8 @@ pub fn read<'a>(octets: &'a [u8], role: Role) -> Result<Packet<'a>, Fault>
     }
     let first = u16::from_be_bytes([*o0, *o1]);
     let second = u16::from_be_bytes([*o2, *o3]);
-    if *o0 >> 3 != 3 || *o2 >> 6 != 3 || !role.admits(first % 2048) {
+    let apid = apid_of(octets);
+    if *o0 >> 3 != 3 || *o2 >> 6 != 3 || !role.admits(apid) {
         return Err(Fault::Header { first, second });
     }
     if *o6 >> 4 != 1 || *o9 != 0 {
@@ -152,7 +161,7 @@ pub fn read<'a>(octets: &'a [u8], role: Role) -> Result<Packet<'a>, Fault>
         });
     }
     Ok(Packet {
-        apid: first % 2048,
+        apid,
         sequence_count: second % 16384,
         ack: *o6 % 16,
         service: *service,

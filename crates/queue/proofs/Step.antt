@@ -3,13 +3,14 @@ use Rattle.std.proofs.Common.{◌≡◌, ℕ, ◌+◌, ◌<◌, ◌≤◌, ◌/�
 use Rattle.std.proofs.lemmas.Bool.Decides.{nat_tests}
 use Rattle.std.proofs.lemmas.List.Folds.{list_all-append}
 use Rattle.std.specs.List.{list_all}
+use Rattle.destination.specs.Destination.{sized}
 use Rattle.queue.specs.declared.store.Queue.{Queue}
 use Rattle.queue.specs.Ring.{encode, waits}
 use Rattle.queue.specs.Rules.{carried}
 use Rattle.queue.specs.Queue.{waits_in, carried_by, space_in, cause_of}
 use Rattle.queue.proofs.Frames.{spent_used, laid_down, length_put, grown, exact_again}
 
-module _ (q : Queue) (p : List ℕ) (least : 12 ≤ length p) (most : length p ≤ 228) (fits : 2 + length p ≤ length q.ring) where
+module _ (q : Queue) (p : List ℕ) (size : sized p ≡ true) (fits : 2 + length p ≤ length q.ring) where
   pub is_carried : carried_by q p ≡ true
   is_carried = grind (arith, nat_tests)
 

@@ -1,10 +1,7 @@
 -- What a queue over a memory of so many octets carries, has space for, and why it refuses
 use Rattle.std.specs.Prelude.{ℕ, ◌+◌, Bool, cond, ◌&&◌, List, length, nat_le}
 use Rattle.std.specs.List.{sum_by}
-
--- 12 to 228 octets
-abbrev pub sized : List ℕ → Bool
-sized p = nat_le 12 (length p) && nat_le (length p) 228
+use Rattle.destination.specs.Destination.{sized}
 
 -- it carries a packet of such a length that fits the whole memory with two octets beside it
 abbrev pub carried : ℕ → List ℕ → Bool

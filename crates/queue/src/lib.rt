@@ -10,7 +10,7 @@ ghost use Rattle.queue.specs.Rules.{carried, why};
 mod ring;
 mod store;
 
-use destination::{Destination, LONGEST, Refused, SHORTEST};
+use destination::{Destination, LONGEST, Refused, check_length};
 use ring::Ring;
 pub use store::Queue;
 
@@ -20,8 +20,6 @@ enum Cause {
     NoSpace = 1,
     /// It would not fit an empty queue.
     TooLarge = 2,
-    /// Its length is out of bounds.
-    BadLength = 5,
 }
 
 impl<'a> Queue<'a> {
@@ -73,10 +71,8 @@ impl<'a> Destination for Queue<'a> {
     }
 
     fn offer(&mut self, packet: &[u8]) -> Result<(), Refused> {
+        check_length(packet)?;
         let n = packet.len();
-        if !(SHORTEST..=LONGEST).contains(&n) {
-            return Err(Refused::Never(Cause::BadLength as u16));
-        }
         let size = self.ring.len();
         if 2 + n > size {
             return Err(Refused::Never(Cause::TooLarge as u16));

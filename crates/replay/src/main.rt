@@ -55,10 +55,12 @@ fn replay(rt: &HostRuntime) -> Result<(), ReplayError> {
     let places = Vec::with_capacity(rt.alloc(), entries.len())?;
     match run(places, entries.as_mut_slice()) {
         Ok(session) => session.end(&mut [0; 4096]),
-        // there is room for a request of each call
+        // there is room for a request of each call; no `unwrap`, since the error holds places of
+        // accepted requests, which may not be dropped
         Err(_places) => unreachable!(),
     };
-    let transcript = Transcript::new(script.steps().len(), accepts.as_slice(), entries.as_slice());
+    let (scripted, completions) = entries.as_slice().split_at(script.steps().len());
+    let transcript = Transcript::new(accepts.as_slice(), scripted, completions);
     print(rt, &transcript)?;
     Ok(())
 }

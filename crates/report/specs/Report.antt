@@ -146,7 +146,7 @@ fields_in r =
       subtype = r.subtype;
       count = r.stamp.sequence_count;
       clock = r.stamp.clock;
-      size = r.size;
+      size = 18 + length r.body.now;
       body = r.body.now;
     }
 

@@ -203,13 +203,18 @@ pub struct Report<'a> {
     pub subtype: u8,
     /// The sequence count, of 14 bits, and the clock, of 48.
     pub stamp: Stamp,
-    /// The number of octets of the whole report.
-    pub size: usize,
     /// What stands between the clock and the check field.
     pub body: &'a [u8],
 }
 
 impl Report<'_> {
+    /// The number of octets of the whole report.
+    pub fn size(&self) -> usize
+        ensures { result ≡ 18 + length self.now.body.now }
+    {
+        FRAME + self.body.len()
+    }
+
     /// What the report is about, if a service here gives such reports.
     pub fn kind(&self) -> Option<ReportKind>
         ensures { result ≡ kind_of self.now.service self.now.subtype }
@@ -219,7 +224,8 @@ impl Report<'_> {
     }
 }
 
-// Whether the octets that are the same in every report, and its flag bits, are right.
+// Whether the octets that are the same in every report, and its flag bits, are right. As constants
+// in the reader's pattern they were tried: the check then lacks what a failing pattern says of each.
 fn is_head(octets: &[u8]) -> bool
     requires { 10 ≤ length octets.now }
     ensures { result ≡ is_head octets.now }
@@ -270,7 +276,6 @@ pub fn read_report<'a>(octets: &'a [u8]) -> Option<Report<'a>>
             sequence_count: u16::from_be_bytes([*c1, *c0]) % COUNTS,
             clock: clock_in(octets),
         },
-        size,
         // Between the six octets of the clock and the check field.
         body: &rest[6..size - 12],
     })
@@ -317,7 +322,7 @@ mod tests {
                 assert_eq!(rt; report.subtype, 19);
                 assert_eq!(rt; report.stamp.sequence_count, 0x1234);
                 assert_eq!(rt; report.stamp.clock, 0x0102_0304_0506);
-                assert_eq!(rt; report.size, 20);
+                assert_eq!(rt; report.size(), 20);
                 assert_eq!(rt; report.body.len(), 2);
             }
         }

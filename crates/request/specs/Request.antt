@@ -5,7 +5,7 @@ use Rattle.packet.specs.declared.Role.TheVariants.{Request as AsRequest}
 use Rattle.packet.specs.Octets.{words}
 use Rattle.packet.specs.Packet.{Fields, read_of}
 use Rattle.request.specs.declared.rejection.Rejection.{Rejection}
-use Rattle.request.specs.declared.rejection.Rejection.TheVariants.{Packet, Field}
+use Rattle.request.specs.declared.rejection.Rejection.TheVariants.{Packet, DataLength, NothingNamed, Field}
 use Rattle.request.specs.declared.table.Kind.{Kind}
 use Rattle.request.specs.declared.table.Kind.TheVariants.{Enable as KEnable, Disable as KDisable, Status as KStatus, ConnectionTest as KConnectionTest}
 use Rattle.request.specs.declared.request.Names.{Names}
@@ -64,11 +64,11 @@ apids_in b = drop (slice_index b 0 * 2) (drop 2 b)
 abbrev pub named_of : List ℕ → Result Named Rejection
 named_of b =
     cond (2 + (slice_index b 0 + slice_index b 1) * 2 == length b)
-    (cond (slice_index b 0 + slice_index b 1 == 0) (Err (Field 10 0))
+    (cond (slice_index b 0 + slice_index b 1 == 0) (Err NothingNamed)
     (or_else (out_of_range 1 4095 12 (words (subs_in b)))
     (or_else (out_of_range 0 2047 (12 + slice_index b 0 * 2) (words (apids_in b)))
     (Ok (record { subschedules = words (subs_in b); apids = words (apids_in b) })))))
-    (Err (Field 10 (length b)))
+    (Err (DataLength (length b)))
 
 abbrev pub naming : (Named → Asked) → Result Named Rejection → Result Asked Rejection
 naming f (Ok n) = Ok (f n)
@@ -78,7 +78,7 @@ abbrev pub decode_of : Kind → List ℕ → Result Asked Rejection
 decode_of KEnable b = naming enables (named_of b)
 decode_of KDisable b = naming disables (named_of b)
 decode_of KStatus b = naming asks_status (named_of b)
-decode_of KConnectionTest b = cond (length b == 0) (Ok tests_connection) (Err (Field 10 (length b)))
+decode_of KConnectionTest b = cond (length b == 0) (Ok tests_connection) (Err (DataLength (length b)))
 
 abbrev pub told : ℕ → Result Asked Rejection → Result Told Rejection
 told bits (Ok q) = Ok (record { ack = ack_of bits; asked = q })

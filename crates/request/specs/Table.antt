@@ -2,7 +2,7 @@
 use Rattle.std.specs.Prelude.{ℕ, Bool, cond, ◌&&◌, List, [], ◌∷◌, Some, None, Ok, Err, Option, Result, ◌==◌, nat_lt}
 use Rattle.std.specs.List.{find as first, list_any}
 use Rattle.request.specs.declared.rejection.Rejection.{Rejection}
-use Rattle.request.specs.declared.rejection.Rejection.TheVariants.{UnknownType, UnknownSubtype, Field}
+use Rattle.request.specs.declared.rejection.Rejection.TheVariants.{UnknownType, UnknownSubtype, DataLength}
 use Rattle.request.specs.declared.table.Kind.{Kind}
 use Rattle.request.specs.declared.table.Kind.TheVariants.{Enable, Disable, Status, ConnectionTest}
 use Rattle.request.specs.declared.table.Row.{Row}
@@ -24,7 +24,7 @@ has_type s xs = list_any (λ x. x.service == s) xs
 -- the kind of a request with n octets of data: an unknown type, then an unknown subtype, then too few data are refused
 abbrev pub chosen : ℕ → ℕ → ℕ → Bool → Option Row → Result Kind Rejection
 chosen s u n known None = cond known (Err (UnknownSubtype s u)) (Err (UnknownType s u))
-chosen s u n known (Some x) = cond (nat_lt n x.least) (Err (Field 10 n)) (Ok x.kind)
+chosen s u n known (Some x) = cond (nat_lt n x.least) (Err (DataLength n)) (Ok x.kind)
 
 abbrev pub kind_of : ℕ → ℕ → ℕ → Result Kind Rejection
 kind_of s u n = chosen s u n (has_type s rows) (find s u rows)

@@ -44,7 +44,9 @@ fn names<'a>(body: &'a [u8]) -> Result<Names<'a>, Rejection>
     ensures value { meant_names result ≡ named_of body.now }
     ensures few { IfOk result (λ n. few (names_in n) ≡ true) }
 {
-    let wrong_length = Rejection::wrong_length(body.len() as u16);
+    let wrong_length = Rejection::DataLength {
+        octets: body.len() as u16,
+    };
     let [n1, n2, numbers @ ..] = body else {
         return Err(wrong_length);
     };
@@ -53,7 +55,7 @@ fn names<'a>(body: &'a [u8]) -> Result<Names<'a>, Rejection>
         return Err(wrong_length);
     }
     if n1 + n2 == 0 {
-        return Err(Rejection::wrong_length(0));
+        return Err(Rejection::NothingNamed);
     }
     let (subschedules, apids) = numbers.split_at(n1 * 2);
     all_in_range(subschedules, 1, 4095, 12)?;
@@ -74,7 +76,9 @@ fn decode<'a>(kind: Kind, body: &'a [u8]) -> Result<Request<'a>, Rejection>
         Kind::Disable => Ok(Request::Disable(names(body)?)),
         Kind::Status => Ok(Request::Status(names(body)?)),
         Kind::ConnectionTest if body.is_empty() => Ok(Request::ConnectionTest),
-        Kind::ConnectionTest => Err(Rejection::wrong_length(body.len() as u16)),
+        Kind::ConnectionTest => Err(Rejection::DataLength {
+            octets: body.len() as u16,
+        }),
     }
 }
 

@@ -1,6 +1,6 @@
 ghost use Rattle.std.specs.Prelude.{◌≡◌};
 ghost use Rattle.request.specs.Rejection.{failure_of};
-ghost use Rattle.request.specs.declared.rejection.Rejection.TheVariants.{Packet, Field};
+ghost use Rattle.request.specs.declared.rejection.Rejection.TheVariants.{Packet};
 
 use packet::{Failure, Fault};
 
@@ -13,22 +13,16 @@ pub enum Rejection {
     UnknownType { service: u8, subtype: u8 },
     /// No request of this type has this subtype.
     UnknownSubtype { service: u8, subtype: u8 },
-    /// The data are of the wrong length (by octet 10 and their length), or a
-    /// field is out of its range (by its first octet and its value).
+    /// The data have not the length that their layout requires, but this one.
+    DataLength { octets: u16 },
+    /// No subschedule and no APID is named.
+    NothingNamed,
+    /// A field is out of its range, by its first octet and its value.
     Field { octet: u16, value: u16 },
 }
 
-impl Rejection {
-    // The data are not as long as their layout: told by their first octet.
-    pub(crate) fn wrong_length(length: u16) -> Rejection
-        ensures { result ≡ Field 10 length }
-    {
-        Rejection::Field {
-            octet: 10,
-            value: length,
-        }
-    }
-}
+// The first octet of the data, by which a report names them.
+const DATA: u16 = 10;
 
 impl From<Fault> for Rejection {
     ghost from_gives = { λ fault r. r ≡ Packet fault };
@@ -46,6 +40,8 @@ impl From<Rejection> for Failure {
             Rejection::Packet(fault) => return Failure::from(fault),
             Rejection::UnknownType { service, subtype } => (3, service.into(), subtype.into()),
             Rejection::UnknownSubtype { service, subtype } => (4, service.into(), subtype.into()),
+            Rejection::DataLength { octets } => (5, DATA, octets),
+            Rejection::NothingNamed => (5, DATA, 0),
             Rejection::Field { octet, value } => (5, octet, value),
         };
         Failure { code, a, b }

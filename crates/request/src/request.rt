@@ -1,6 +1,7 @@
 /// The subschedules and APIDs that a request names, as octets of the packet:
 /// each number has two, most significant first.
-// As octets, and no slices of pairs: those would ask more of whoever makes one.
+// As octets, and no slices of pairs, and with no bound on how many: either would ask more of
+// whoever makes one. That a decoded request names at most 117 stands in the clauses of the reader.
 #[derive(Clone, Copy)]
 pub struct Names<'a> {
     pub subschedules: &'a [u8],

@@ -67,7 +67,7 @@ pub fn kind_of(service: u8, subtype: u8, length: u16) -> Result<Kind, Rejection>
     ensures { result ≡ kind_of service subtype length }
 {
     match find_row(&TABLE, service, subtype) {
-        Some(row) if length < row.least => Err(Rejection::wrong_length(length)),
+        Some(row) if length < row.least => Err(Rejection::DataLength { octets: length }),
         Some(row) => Ok(row.kind),
         None if has_type(&TABLE, service) => Err(Rejection::UnknownSubtype { service, subtype }),
         None => Err(Rejection::UnknownType { service, subtype }),

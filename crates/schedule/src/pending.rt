@@ -55,8 +55,7 @@ impl Pending {
     pub fn apid(&self) -> u16
         ensures { result ≡ apid_of self.now.octets }
     {
-        let [o0, o1, _, _] = self.name();
-        u16::from_be_bytes([o0, o1]) % 2048
+        packet::apid_of(self.octets())
     }
 
     /// The command's sequence count.

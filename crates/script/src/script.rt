@@ -1,6 +1,6 @@
 //! A whole call script.
-ghost use Rattle.std.specs.Prelude.{◌≡◌, None, All, IfOk, map};
-ghost use Rattle.script.specs.Run.{brought, acceptances, run_of};
+ghost use Rattle.std.specs.Prelude.{◌≡◌, None, All, IfOk, map, is_some};
+ghost use Rattle.script.specs.Run.{brought, asks_acceptance, acceptances, run_of};
 
 use crate::line::{Line, LineError, read_line};
 use history::call::{Call, Entry};
@@ -15,6 +15,18 @@ pub struct Step {
     pub call: Call<Vec<u8>>,
     /// How many octets the area has that the call brings.
     pub area: usize,
+}
+
+impl Step {
+    // The octets of the acceptance that it asks for.
+    fn acceptance(&self) -> Option<&[u8]>
+        ensures { is_some result ≡ asks_acceptance self.now.call }
+    {
+        match &self.call {
+            Call::Accept(octets) => Some(octets.as_slice()),
+            _ => None,
+        }
+    }
 }
 
 /// A wrong line.
@@ -74,7 +86,9 @@ impl Script {
     }
 
     /// The calls read so far.
-    pub fn steps(&self) -> &[Step] {
+    pub fn steps(&self) -> &[Step]
+        ensures { result.now ≡ self.now.steps.items }
+    {
         self.steps.as_slice()
     }
 
@@ -82,10 +96,7 @@ impl Script {
     pub fn accepts(&self) -> Result<Vec<&[u8]>, AllocError> {
         self.steps
             .iter()
-            .filter_map(|step| match &step.call {
-                Call::Accept(octets) => Some(octets.as_slice()),
-                _ => None,
-            })
+            .filter_map(|step| step.acceptance())
             .collect(self.heap)
     }
 
@@ -95,7 +106,7 @@ impl Script {
     {
         self.steps
             .iter()
-            .filter(|step| matches!(step.call, Call::Accept(_)))
+            .filter(|step| step.acceptance().is_some())
             .count()
     }
 
@@ -107,7 +118,7 @@ impl Script {
         ensures not_made { IfOk result (λ entries. All (λ e. e.reply ≡ None) entries.items) }
     {
         let mut entries = Vec::new(self.heap);
-        for step in self.steps.as_slice() {
+        for step in self.steps() {
             entries.push(Entry {
                 call: step.call.as_deref(),
                 area: vec![in self.heap; 0; step.area.min(LEAST_AREA)]?,

@@ -16,8 +16,8 @@ pub record State : Type 0 where
 abbrev pub view : Service → State
 view s =
     record {
-      clock = s.clock;
-      count = s.report_count;
+      clock = s.stamp.clock;
+      count = s.stamp.sequence_count;
       subschedules = subschedules_on s.status;
       apids = apids_on s.status;
     }

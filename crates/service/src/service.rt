@@ -19,10 +19,8 @@ use status::Status;
 /// The service behind a bus: clock, reports given, status.
 #[derive(Drop)]
 pub struct Service {
-    // in 1/65536 second
-    pub(crate) clock: u64,
-    // of the next report
-    pub(crate) report_count: u16,
+    // of the next report: its sequence count, and the clock
+    pub(crate) stamp: Stamp,
     pub(crate) status: Status,
 }
 
@@ -32,8 +30,10 @@ impl Service {
         ensures { view result ≡ initial }
     {
         Service {
-            clock: 0,
-            report_count: 0,
+            stamp: Stamp {
+                sequence_count: 0,
+                clock: 0,
+            },
             status: Status::new(),
         }
     }
@@ -46,10 +46,10 @@ impl Service {
         if time >= 1 << 48 {
             return Err(Refusal::TimeBeyondRange);
         }
-        if time < self.clock {
+        if time < self.stamp.clock {
             return Err(Refusal::ClockBackward);
         }
-        self.clock = time;
+        self.stamp.clock = time;
         Ok(())
     }
 
@@ -60,11 +60,8 @@ impl Service {
         ensures short { result ≡ 18 + length body.now }
         ensures gives { Gives (view self.old) (view self.old) (content_of kind body.now ∷ []) part.old part.new (view self.new) result }
     {
-        let stamp = Stamp {
-            sequence_count: self.report_count,
-            clock: self.clock,
-        };
-        self.report_count = stamp.next().sequence_count;
+        let stamp = self.stamp;
+        self.stamp = stamp.next();
         Draft { stamp, kind, body }.write(part).unwrap()
     }
 

@@ -12,6 +12,7 @@ pub mod switches;
 use crate::switches::Switches;
 
 /// Which subschedules and which application processes of a schedule are enabled.
+// Bit maps of 512 and 256 octets are a rule of the project: the service has a fixed memory.
 #[derive(Clone, Copy)]
 pub struct Status {
     pub subschedules: Switches<512>,

@@ -69,6 +69,7 @@ impl<const N: usize> Switches<N> {
             } else {
                 number
             };
+            // by index: `as_chunks_mut` says nothing of what the slice ends as
             out[2 * i..2 * i + 2].copy_from_slice(&raised.to_be_bytes());
         }
     }

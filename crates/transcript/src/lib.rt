@@ -15,24 +15,23 @@ use words::{Asked, Said, Seconds, WhyRefused, WhyRejected};
 /// All calls made for a script and what they were answered, shown as the lines to print.
 #[derive(Clone, Copy)]
 pub struct Transcript<'a, 'o> {
-    // how many of the calls stand in the script itself
-    scripted: usize,
     accepts: &'a [&'o [u8]],
-    entries: &'a [Entry<'o>],
+    scripted: &'a [Entry<'o>],
+    completions: &'a [Entry<'o>],
 }
 
 impl<'a, 'o> Transcript<'a, 'o> {
-    /// The transcript of the calls made, of which the first `scripted` stand in a script, with
-    /// the octets of its acceptances.
+    /// The transcript of the calls made: those of a script, with the octets of its acceptances,
+    /// then the completions of these.
     pub fn new(
-        scripted: usize,
         accepts: &'a [&'o [u8]],
-        entries: &'a [Entry<'o>],
+        scripted: &'a [Entry<'o>],
+        completions: &'a [Entry<'o>],
     ) -> Transcript<'a, 'o> {
         Transcript {
-            scripted,
             accepts,
-            entries,
+            scripted,
+            completions,
         }
     }
 
@@ -40,10 +39,10 @@ impl<'a, 'o> Transcript<'a, 'o> {
     fn request(&self, call: Call<&'o [u8]>) -> &'o [u8] {
         match call {
             Call::Request(octets) | Call::Accept(octets) => octets,
-            Call::Complete(number) => match self.accepts.get(number.wrapping_sub(1)) {
-                Some(octets) => *octets,
-                None => &[],
-            },
+            Call::Complete(number) => {
+                let acceptance = self.accepts.get(number.wrapping_sub(1));
+                acceptance.copied().unwrap_or(&[])
+            }
             Call::SetClock(_) => &[],
         }
     }
@@ -54,15 +53,16 @@ impl fmt::Display for Transcript<'_, '_> {
         // counted by hand: calls printed and acceptances asked for each have their own numbers
         let mut number: usize = 0;
         let mut acceptance: usize = 0;
-        for (i, entry) in self.entries.iter().enumerate() {
+        // not shown: completions of requests that had ended
+        let completed = self
+            .completions
+            .iter()
+            .filter(|entry| !matches!(entry.reply, Some(Reply::NoSuchRequest)));
+        for entry in self.scripted.iter().chain(completed) {
             if matches!(entry.call, Call::Accept(_)) {
                 acceptance = acceptance.saturating_add(1);
             }
             let Some(reply) = entry.reply else { continue };
-            // of the completions at the end, those of requests that had ended
-            if i >= self.scripted && matches!(reply, Reply::NoSuchRequest) {
-                continue;
-            }
             number = number.saturating_add(1);
             let call = Printed {
                 number,
@@ -193,10 +193,10 @@ impl<'a> Iterator for Reports<'a> {
 
     fn next(&mut self) -> Option<(Report<'a>, &'a [u8])> {
         let report = read_report(self.0)?;
-        if report.size == 0 || report.size > self.0.len() {
+        if report.size() > self.0.len() {
             return None;
         }
-        let (octets, rest) = self.0.split_at(report.size);
+        let (octets, rest) = self.0.split_at(report.size());
         self.0 = rest;
         Some((report, octets))
     }

@@ -95,7 +95,18 @@ impl fmt::Display for WhyRejected {
             Rejection::UnknownSubtype { service, subtype } => {
                 write!(f, "no request of type {service} has subtype {subtype}")
             }
-            Rejection::Field { octet, value } => write_wrong_data(f, octet, value),
+            // a request without data names nothing either
+            Rejection::NothingNamed | Rejection::DataLength { octets: 0 } => {
+                f.write_str("wrong data: no subschedule and no APID is named")
+            }
+            Rejection::DataLength { octets } => write!(
+                f,
+                "wrong data: {octets} octets of data are not as many as this request has"
+            ),
+            Rejection::Field { octet, value } => write!(
+                f,
+                "wrong data: the number at octet {octet} is {value}, which is out of range"
+            ),
         }
     }
 }
@@ -117,24 +128,6 @@ fn write_fault<W: fmt::Write>(f: &mut fmt::Formatter<W>, fault: Fault) -> fmt::R
         Fault::DataHeader { first, second } => write!(
             f,
             "wrong data header: octets 6 to 9 are {first:04X} {second:04X}, wanted are 1 in the upper half of octet 6 and 00 in octet 9"
-        ),
-    }
-}
-
-fn write_wrong_data<W: fmt::Write>(
-    f: &mut fmt::Formatter<W>,
-    octet: u16,
-    value: u16,
-) -> fmt::Result {
-    match (octet, value) {
-        (10, 0) => f.write_str("wrong data: no subschedule and no APID is named"),
-        (10, _) => write!(
-            f,
-            "wrong data: {value} octets of data are not as many as this request has"
-        ),
-        _ => write!(
-            f,
-            "wrong data: the number at octet {octet} is {value}, which is out of range"
         ),
     }
 }

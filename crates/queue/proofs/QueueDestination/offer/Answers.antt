@@ -1,4 +1,5 @@
-use Rattle.std.proofs.Common.{◌≡◌, ◌≤◌, ◌/◌, ◌%◌, [], ◌∷◌, length, refl, arith, rules}
+use Rattle.std.proofs.Common.{◌≡◌, true, ◌/◌, ◌%◌, [], ◌∷◌, length, refl, arith, rules}
+use Rattle.destination.specs.Destination.{sized}
 use Rattle.queue.proofs.Step.{is_carried, why_full, is_full, has_space, stepped}
 use Rattle.queue.proofs.QueueDestination.offer.Goals as goal
 
@@ -6,10 +7,9 @@ pub returns-then-n-size-2 : goal.returns-then-n-size-2
 returns-then-n-size-2 c =
     let q = c.args.self.now in
     let p = c.args.packet.now in
-    let least : 12 ≤ length p = search rules in
-    let most : length p ≤ 228 = search rules in
-    let a = is_carried q p least most (omega arith) in
-    let y = why_full q p least most (omega arith) in
+    let size : sized p ≡ true = search rules in
+    let a = is_carried q p size (omega arith) in
+    let y = why_full q p size (omega arith) in
     let b = is_full q p (omega arith) in
     record { answer = simp (a, b, y); waiting = simp (a, b); fixed = λ p. refl; never = λ _. refl; not_now = λ _. refl }
 
@@ -17,10 +17,9 @@ pub invariant_of-self : goal.invariant_of-self
 invariant_of-self c =
     let q = c.args.self.now in
     let p = c.args.packet.now in
-    let least : 12 ≤ length p = search rules in
-    let most : length p ≤ 228 = search rules in
+    let size : sized p ≡ true = search rules in
     let h : c.to_be_bytes-header.result ≡ length p / 256 ∷ length p % 256 ∷ [] = search rules in
-    let a = is_carried q p least most (omega arith) in
+    let a = is_carried q p size (omega arith) in
     let s = stepped q _ p c.write.new.self c.write-2.new.self a (omega arith) h c.write.ensures c.write-2.ensures in
     record { within = omega arith; exact = s.exact; fine = s.fine }
 
@@ -28,10 +27,9 @@ pub returns : goal.returns
 returns c =
     let q = c.args.self.now in
     let p = c.args.packet.now in
-    let least : 12 ≤ length p = search rules in
-    let most : length p ≤ 228 = search rules in
+    let size : sized p ≡ true = search rules in
     let h : c.to_be_bytes-header.result ≡ length p / 256 ∷ length p % 256 ∷ [] = search rules in
-    let a = is_carried q p least most (omega arith) in
+    let a = is_carried q p size (omega arith) in
     let b = has_space q p (omega arith) in
     let s = stepped q _ p c.write.new.self c.write-2.new.self a (omega arith) h c.write.ensures c.write-2.ensures in
     let g = s.waiting in

@@ -1,8 +1,7 @@
-use Rattle.std.proofs.Common.{ℕ, List, length, refl, sym, ap, ◌∙◌, subst, arith}
+use Rattle.std.proofs.Common.{◌≡◌, ℕ, List, length, get_or, Some, rules, refl, sym, ap, ◌∙◌, subst, arith}
 use Rattle.std.proofs.lemmas.List.{get_or_default}
-use Rattle.bus.specs.declared.mailbox.Mailbox.{Mailbox}
 use Rattle.destination.specs.Destination.{laid}
-use Rattle.bus.specs.Bus.{waiting_in, apids_in, held, no_box}
+use Rattle.bus.specs.Bus.{waiting_in, apids_in, octets_of, held, no_box}
 use Rattle.bus.specs.Kept.{Sound}
 use Rattle.bus.proofs.Ranks.{none_waits, oldest_waits, some_full, full_ranked}
 use Rattle.bus.proofs.Keeping.{apids_lower, lowered_sound}
@@ -33,10 +32,12 @@ returns c =
     let waits = oldest_waits ms c.requires.ranks i o.0 o.1 in
     let t = take_one (length area) (waiting_in ms) _ _ (omega arith) waits in
     let g = get_or_default ms i c.index-self-place.result no_box o.0 in
+    let is : (get_or ms i c.index-self-place.result).packet ≡ Some c.unwrap-held.result.now = search rules in
+    let u : c.unwrap-held.result.now.octets ≡ held (get_or ms i no_box) = sym (ap octets_of is) ∙ ap held g in
     let some = some_full ms i (full_ranked _ 0 o.1) in
     record {
-      answer = c.copy_to-n.ensures.answer ∙ ap (λ (m : Mailbox). length (held m)) g ∙ sym (ap length t.0);
-      area = c.copy_to-n.ensures.area ∙ ap (λ (m : Mailbox). laid (held m) area) g ∙ sym (ap (λ (p : List ℕ). laid p area) t.0);
+      answer = c.copy_to-n.ensures.answer ∙ ap length u ∙ sym (ap length t.0);
+      area = c.copy_to-n.ensures.area ∙ ap (λ (p : List ℕ). laid p area) (u ∙ sym t.0);
       waiting = ap waiting_in c.lower_ranks.ensures ∙ sym t.1;
       fixed = ap apids_in c.lower_ranks.ensures ∙ apids_lower ms;
       short = λ t. absurd (omega arith);

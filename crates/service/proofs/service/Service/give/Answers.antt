@@ -11,8 +11,8 @@ pub returns-clause-gives : goal.returns-clause-gives
 returns-clause-gives c =
     let body : List ℕ = c.args.body.now in
     let room : ℕ = length c.args.part.now in
-    let n : ℕ = c.args.self.now.report_count in
-    let t : ℕ = c.args.self.now.clock in
+    let n : ℕ = c.args.self.now.stamp.sequence_count in
+    let t : ℕ = c.args.self.now.stamp.clock in
     let content : Content = content_of c.args.kind body in
     let yes : fits room (length body) ≡ true = fits_here room (length body) (omega arith) (omega arith) in
     let some : ◌≡◌ {A = Option ℕ} (Some c.unwrap.result) (Some (18 + length body)) =
@@ -26,6 +26,6 @@ returns-clause-gives c =
           ∙ cond-true (fits room (length body)) (over (report_of n t content) c.args.part.now) c.args.part.now yes
           ∙ ap (λ (w : List ℕ). over w c.args.part.now) (sym one);
       state =
-          ap (λ (k : ℕ). record { clock = t; count = k; subschedules = subschedules_on c.args.self.now.status; apids = apids_on c.args.self.now.status })
-          (ap (λ (s : Stamp). s.sequence_count) c.next.ensures);
+          ap (λ (s : Stamp). record { clock = s.clock; count = s.sequence_count; subschedules = subschedules_on c.args.self.now.status; apids = apids_on c.args.self.now.status })
+          c.next-self.ensures;
     }
