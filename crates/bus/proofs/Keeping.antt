@@ -7,6 +7,7 @@ use Rattle.std.proofs.lemmas.List.Folds.{list_all-append, position_or_len-set}
 use Rattle.std.proofs.lemmas.Bool.{cases_eq}
 use Rattle.bus.specs.declared.mailbox.Held.{Held}
 use Rattle.bus.specs.declared.mailbox.Mailbox.{Mailbox}
+use Rattle.octets.proofs.Kept.{seen_kept}
 use Rattle.packet.specs.Packet.{apid_of}
 use Rattle.bus.specs.Bus.{no_box, home, is_for, is_full, octets_of, held, filled, of_rank, waiting_in, apids_in, carried}
 use Rattle.bus.specs.Changes.{holding, moved_up, lowered}
@@ -63,7 +64,7 @@ module _ (ms : List Mailbox) (i : ℕ) (p : List ℕ) (s : Sound ms) (lt : i < l
   posted_apids = apids_set ms i (holding (get_or ms i no_box) (filled ms) p) refl
 
   posted_held : held (holding (get_or ms i no_box) (filled ms) p) ≡ p
-  posted_held = take_all 228 p short
+  posted_held = seen_kept 228 p ∙ take_all 228 p short
 
   pub posted_waits : waiting_in (posted ms i p) ≡ waiting_in ms ++ p ∷ []
   posted_waits =

@@ -3,6 +3,7 @@ use Rattle.std.specs.Prelude.{ℕ, Bool, false, cond, not, ◌&&◌, List, [], �
 use Rattle.std.specs.List.{list_any, flat_map, position_or_len, range_with_len}
 use Rattle.std.specs.Option.{is_none, is_some, option_eq, option_to_list}
 use Rattle.destination.specs.Destination.{sized}
+use Rattle.octets.specs.Octets.{seen}
 use Rattle.packet.specs.Packet.{apid_of}
 use Rattle.bus.specs.declared.mailbox.Held.{Held}
 use Rattle.bus.specs.declared.mailbox.Mailbox.{Mailbox}
@@ -40,7 +41,7 @@ is_for a m = option_eq nat_eq m.apid (Some a)
 -- the octets of a packet that is held, if one is
 abbrev pub octets_of : Option Held → List ℕ
 octets_of None = []
-octets_of (Some h) = h.octets
+octets_of (Some h) = seen h.octets
 
 abbrev pub held : Mailbox → List ℕ
 held m = octets_of m.packet

@@ -1,6 +1,7 @@
 -- What becomes of mailboxes
-use Rattle.std.specs.Prelude.{ℕ, ◌-◌, cond, not, ◌&&◌, List, ◌++◌, map, length, take, replicate, Some, None, Option, ◌==◌, nat_le}
+use Rattle.std.specs.Prelude.{ℕ, ◌-◌, cond, not, ◌&&◌, List, ◌++◌, map, length, replicate, Some, None, Option, ◌==◌, nat_le}
 use Rattle.std.specs.List.{position}
+use Rattle.octets.specs.Octets.{kept}
 use Rattle.bus.specs.declared.mailbox.Held.{Held}
 use Rattle.bus.specs.declared.mailbox.Mailbox.{Mailbox}
 use Rattle.bus.specs.Bus.{apids_in, is_in, is_unused, no_box}
@@ -19,7 +20,7 @@ place_for ms n = cond (nat_le n 2047 && not (is_in n (apids_in ms))) (position i
 
 -- a packet put into a mailbox
 abbrev pub holding : Mailbox → ℕ → List ℕ → Mailbox
-holding m rank p = record { apid = m.apid; packet = Some (record { rank = rank; octets = take 228 p }) }
+holding m rank p = record { apid = m.apid; packet = Some (record { rank = rank; octets = kept 228 p }) }
 
 -- one rank lower: the packet of rank 0 is let go
 abbrev pub moved_up : Option Held → Option Held

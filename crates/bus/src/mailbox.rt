@@ -1,5 +1,6 @@
 ghost use Rattle.std.specs.Prelude.{◌≡◌, ◌≤◌, map, length};
 ghost use Rattle.std.specs.List.{position};
+ghost use Rattle.octets.specs.Octets.{seen};
 ghost use Rattle.destination.specs.Destination.{laid};
 ghost use Rattle.bus.specs.Bus.{is_full, is_unused, is_for, filled};
 ghost use Rattle.bus.specs.Changes.{fresh, holding, lowered};
@@ -19,8 +20,8 @@ impl Held {
     /// Copies the packet to the start of the area, and answers its length.
     pub(crate) fn copy_to(&self, area: &mut [u8]) -> usize
         requires { 228 ≤ length area.old }
-        ensures answer { result ≡ length self.now.octets }
-        ensures area { area.new ≡ laid self.now.octets area.old }
+        ensures answer { result ≡ length (seen self.now.octets) }
+        ensures area { area.new ≡ laid (seen self.now.octets) area.old }
     {
         let octets = self.octets.as_slice();
         area[..octets.len()].copy_from_slice(octets);

@@ -1,5 +1,6 @@
 -- Which pending commands a cancel ends
 use Rattle.std.specs.Prelude.{ℕ, ◌+◌, ◌-◌, ◌%◌, Bool, ◌&&◌, ◌==◌, nat_le, nat_lt}
+use Rattle.octets.specs.Octets.{seen}
 use Rattle.packet.specs.Packet.{apid_of, count_of}
 use Rattle.request.specs.declared.request.Cancel.{Cancel}
 use Rattle.schedule.specs.declared.pending.Pending.{Pending}
@@ -12,4 +13,4 @@ among first n count = nat_lt ((count + 16384 - first) % 16384) n
 abbrev pub covers : Cancel → Pending → Bool
 covers r p =
     (p.subschedule == r.subschedule)
-    && (apid_of p.octets == r.apid && (nat_le r.tag p.tag && among r.first_count r.number (count_of p.octets)))
+    && (apid_of (seen p.octets) == r.apid && (nat_le r.tag p.tag && among r.first_count r.number (count_of (seen p.octets))))

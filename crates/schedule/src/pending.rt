@@ -1,4 +1,5 @@
 ghost use Rattle.std.specs.Prelude.{◌≡◌};
+ghost use Rattle.octets.specs.Octets.{seen};
 ghost use Rattle.packet.specs.Packet.{apid_of, count_of};
 ghost use Rattle.request.specs.Request.{name_of};
 ghost use Rattle.schedule.specs.Pending.{pended, moment_of};
@@ -39,28 +40,28 @@ impl Pending {
 
     /// The command's octets.
     pub fn octets(&self) -> &[u8]
-        ensures { result.now ≡ self.now.octets }
+        ensures { result.now ≡ seen self.now.octets }
     {
         self.octets.as_slice()
     }
 
     /// The command's first four octets, missing ones as zero.
     pub fn name(&self) -> [u8; 4]
-        ensures { result ≡ name_of self.now.octets }
+        ensures { result ≡ name_of (seen self.now.octets) }
     {
         name_of(self.octets())
     }
 
     /// The APID that the command is for.
     pub fn apid(&self) -> u16
-        ensures { result ≡ apid_of self.now.octets }
+        ensures { result ≡ apid_of (seen self.now.octets) }
     {
         packet::apid_of(self.octets())
     }
 
     /// The command's sequence count.
     pub fn sequence_count(&self) -> u16
-        ensures { result ≡ count_of self.now.octets }
+        ensures { result ≡ count_of (seen self.now.octets) }
     {
         let [_, _, o2, o3] = self.name();
         u16::from_be_bytes([o2, o3]) % 16384

@@ -1,5 +1,6 @@
 //! The bodies of reports.
 ghost use Rattle.std.specs.Prelude.{◌≡◌, ◌+◌, ◌/◌, ◌≤◌, length};
+ghost use Rattle.octets.specs.Octets.{seen};
 ghost use Rattle.request.specs.Request.{names_in};
 ghost use Rattle.status.specs.Status.{subschedules_on, apids_on};
 ghost use Rattle.service.specs.Reports.{failure_body, status_body};
@@ -23,7 +24,7 @@ pub(crate) fn failure_body(name: [u8; 4], failure: Failure) -> [u8; 10]
 /// The body of a status report.
 pub(crate) fn status_body(status: &Status, names: Names) -> Octets<236>
     requires { length names.subschedules.now / 2 + length names.apids.now / 2 ≤ 117 }
-    ensures { result ≡ status_body (subschedules_on status.now) (apids_on status.now) (names_in names.entry) }
+    ensures { seen result ≡ status_body (subschedules_on status.now) (apids_on status.now) (names_in names.entry) }
 {
     let n1 = names.subschedules.len() / 2;
     let n2 = names.apids.len() / 2;

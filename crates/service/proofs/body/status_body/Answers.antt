@@ -34,7 +34,7 @@ returns c =
     let all : List ℕ = put_mid (2 + n₁ * 2) (end - (2 + n₁ * 2)) x₁ f₂ in
     let whole : take end all ≡ n₁ ∷ n₂ ∷ (f₁ ++ f₂) = laid out n₁ n₂ f₁ f₂ (2 + n₁ * 2) end (omega arith) (omega arith) (omega arith) in
     let short : length (take end all) ≤ 236 = omega (arith, length-take end all) in
-    c.new.ensures
+    c.new.ensures.octets
     ∙ take_all 236 (take end all) short
     ∙ whole
     ∙ ap (λ (l : List ℕ). n₁ ∷ n₂ ∷ (l ++ f₂)) e₁ ∙ ap (λ (l : List ℕ). n₁ ∷ n₂ ∷ (u₁ ++ l)) e₂

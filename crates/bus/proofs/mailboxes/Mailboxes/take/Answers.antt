@@ -1,5 +1,6 @@
 use Rattle.std.proofs.Common.{◌≡◌, ℕ, List, length, get_or, Some, rules, refl, sym, ap, ◌∙◌, subst, arith}
 use Rattle.std.proofs.lemmas.List.{get_or_default}
+use Rattle.octets.specs.Octets.{seen}
 use Rattle.destination.specs.Destination.{laid}
 use Rattle.bus.specs.Bus.{waiting_in, apids_in, octets_of, held, no_box}
 use Rattle.bus.specs.Kept.{Sound}
@@ -33,7 +34,7 @@ returns c =
     let t = take_one (length area) (waiting_in ms) _ _ (omega arith) waits in
     let g = get_or_default ms i c.index-self-place.result no_box o.0 in
     let is : (get_or ms i c.index-self-place.result).packet ≡ Some c.unwrap-held.result.now = search rules in
-    let u : c.unwrap-held.result.now.octets ≡ held (get_or ms i no_box) = sym (ap octets_of is) ∙ ap held g in
+    let u : seen c.unwrap-held.result.now.octets ≡ held (get_or ms i no_box) = sym (ap octets_of is) ∙ ap held g in
     let some = some_full ms i (full_ranked _ 0 o.1) in
     record {
       answer = c.copy_to-n.ensures.answer ∙ ap length u ∙ sym (ap length t.0);
