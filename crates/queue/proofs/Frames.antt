@@ -21,12 +21,21 @@ parse-encode (p ∷ ps) (suc k) h =
 length-framed : (p : List ℕ) → length (framed p) ≡ 2 + length p
 length-framed p = omega arith
 
+-- how many octets packets take up
+pub length-encode : (ws : List (List ℕ)) → length (encode ws) ≡ spent ws
+length-encode ws = length-flat_map framed ws ∙ (λ i. sum_by (λ p. length-framed p i) ws)
+
 -- the waiting packets take up the used octets
 pub spent_used : (m : List ℕ) (u : ℕ) → u ≤ length m → encode (waits m u) ≡ take u m → spent (waits m u) ≡ u
-spent_used m u h x =
-    let ws = waits m u in
-    let e : spent ws ≡ sum_by (λ p. length (framed p)) ws = λ i. sum_by (λ p. sym (length-framed p) i) ws in
-    e ∙ sym (length-flat_map framed ws) ∙ ap length x ∙ length-take-le u m h
+spent_used m u h x = sym (length-encode (waits m u)) ∙ ap length x ∙ length-take-le u m h
+
+-- the used part after a packet is laid down
+pub used_part : (m p : List ℕ) (u : ℕ) → u + (2 + length p) ≤ length m → take (u + (2 + length p)) (put_at m u p) ≡ take u m ++ framed p
+used_part m p u h =
+    let k = u + (2 + length p) in
+    let lt = length-take-le u m (omega arith) in
+    let lf = length-append (take u m) (framed p) in
+    ap (take k) (sym (append_assoc (take u m) (framed p) (drop k m))) ∙ take_at (take u m ++ framed p) (drop k m) k (omega arith)
 
 -- a header written behind the used octets, and a packet behind it
 pub laid_down : (m h p n k : List ℕ) (u : ℕ) → u + (2 + length p) ≤ length m → h ≡ length p / 256 ∷ length p % 256 ∷ [] →
@@ -58,20 +67,20 @@ module _ (m p n : List ℕ) (u : ℕ) (h : u + (2 + length p) ≤ length m) (is 
   pub length_put : length n ≡ length m
   length_put = ap length split ∙ omega (arith, lf, length-append (take u m ++ framed p) (drop (u + (2 + length p)) m), length-drop (u + (2 + length p)) m)
 
-  used_part : encode (waits m u) ≡ take u m → take (u + (2 + length p)) n ≡ encode (waits m u ++ p ∷ [])
-  used_part x =
+  used_now : encode (waits m u) ≡ take u m → take (u + (2 + length p)) n ≡ encode (waits m u ++ p ∷ [])
+  used_now x =
       let s = flat_map-append framed (waits m u) (p ∷ []) in
       let z = append-nil (framed p) in
-      let t = ap (take (u + (2 + length p))) split ∙ take_at (take u m ++ framed p) (drop (u + (2 + length p)) m) (u + (2 + length p)) lf in
+      let t = ap (take (u + (2 + length p))) is ∙ used_part m p u h in
       cc
 
   -- one packet more waits
   pub grown : encode (waits m u) ≡ take u m → waits n (u + (2 + length p)) ≡ waits m u ++ p ∷ []
   unfolding waits
   grown x =
-      let e = used_part x in
+      let e = used_now x in
       let l = length-take-le (u + (2 + length p)) n (omega (arith, length_put)) in
       ap (parse (u + (2 + length p))) e ∙ parse-encode (waits m u ++ p ∷ []) (u + (2 + length p)) (omega (arith, ap length e))
 
   pub exact_again : encode (waits m u) ≡ take u m → encode (waits n (u + (2 + length p))) ≡ take (u + (2 + length p)) n
-  exact_again x = ap encode (grown x) ∙ sym (used_part x)
+  exact_again x = ap encode (grown x) ∙ sym (used_now x)

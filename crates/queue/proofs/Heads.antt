@@ -3,13 +3,13 @@ use Rattle.std.proofs.Common.{◌≡◌, ◌<◌, ℕ, ◌+◌, ◌-◌, ◌/◌
 use Rattle.std.specs.List.{list_all}
 use Rattle.std.proofs.lemmas.List.{drop-take}
 use lib.Seq.{take-append-le}
-use Rattle.queue.specs.Ring.{round, framed, encode, parse, waits}
+use Rattle.queue.specs.Ring.{Memory, round, ringed, framed, encode, parse, waits}
 use Rattle.queue.specs.declared.store.Queue.{Queue}
 use Rattle.queue.specs.Queue.{waits_in}
 use Rattle.queue.specs.Rules.{carried}
 use Rattle.queue.specs.Keeps.{parts}
 use Rattle.queue.proofs.Frames.{parse-encode}
-use Rattle.queue.proofs.Rounds.{length-round}
+use Rattle.queue.proofs.Rounds.{length_ringed}
 
 -- the oldest of some packets that lie in the first u octets of m, and those behind it
 pub record Oldest (m : List ℕ) (u L : ℕ) (ws : List (List ℕ)) : Type 0 where
@@ -48,34 +48,46 @@ oldest m u L (w ∷ rest) h x f t =
       fine = p.1;
     }
 
-pub oldest_of : (q : Queue) → 0 < q.used → Oldest q.ring q.used (length q.ring) (waits_in q)
-oldest_of q some = oldest q.ring q.used (length q.ring) (waits_in q) q.within q.exact q.fine some
+pub oldest_of : (q : Queue) → 0 < q.used → Oldest (ringed q.ring) q.used (length q.ring.octets) (waits_in q)
+oldest_of q some = oldest (ringed q.ring) q.used (length q.ring.octets) (waits_in q) (omega (arith, length_ringed q.ring, q.within)) q.exact q.fine some
 
--- what lies there once it is let go: the start moves on, and the octets are read from there
-pub record Popped (m : List ℕ) (u L : ℕ) (rest : List (List ℕ)) : Type 0 where
-  pub within : u ≤ length m
-  pub size : length m ≡ L
-  pub waiting : waits m u ≡ rest
-  pub exact : encode (waits m u) ≡ take u m
-  pub fine : list_all (carried (length m)) (waits m u) ≡ true
+-- the used octets after the first k are let go: the start moves on, and the ring is read from there
+pub let_go : (t : List ℕ) (u k : ℕ) → k ≤ u → u ≤ length t → take (u - k) (round t k) ≡ drop k (take u t)
+unfolding round
+let_go t u k h l =
+    let ld = length-drop k t in
+    let a = take-append-le (u - k) (drop k t) (take k t) (omega arith) in
+    let e : k + (u - k) ≡ u = omega arith in
+    let d = drop-take k (u - k) t in
+    cc
 
-pub popped : (m k : List ℕ) (u n : ℕ) (ws : List (List ℕ)) (h : Oldest m u (length m) ws) → n ≡ length h.w → u ≤ length m → k ≡ round m (2 + n) → Popped k (u - (2 + n)) (length m) h.rest
-unfolding waits round
-popped m k u n ws h i l r =
+-- what lies in a memory once it is let go
+pub record Popped (m : Memory) (u L : ℕ) (rest : List (List ℕ)) : Type 0 where
+  pub within : u ≤ length m.octets
+  pub size : length m.octets ≡ L
+  pub waiting : waits (ringed m) u ≡ rest
+  pub exact : encode (waits (ringed m) u) ≡ take u (ringed m)
+  pub fine : list_all (carried (length m.octets)) (waits (ringed m) u) ≡ true
+
+pub popped : (q : Queue) (m : Memory) (n : ℕ) (h : Oldest (ringed q.ring) q.used (length q.ring.octets) (waits_in q)) → n ≡ length h.w →
+    m.octets ≡ q.ring.octets → ringed m ≡ round (ringed q.ring) (2 + n) → Popped m (q.used - (2 + n)) (length q.ring.octets) h.rest
+unfolding waits
+popped q m n h i o r =
+    let t = ringed q.ring in
+    let u = q.used - (2 + n) in
     let b = h.fits in
+    let w = q.within in
+    let l = ap length o in
+    let lt = length_ringed q.ring in
+    let lm = length_ringed m in
     let i2 : 2 + n ≡ 2 + length h.w = omega arith in
-    let lk : length k ≡ length m = ap length r ∙ length-round m (2 + n) (omega arith) in
-    let ld = length-drop (2 + n) m in
-    let a = take-append-le (u - (2 + n)) (drop (2 + n) m) (take (2 + n) m) (omega arith) in
-    let e : 2 + n + (u - (2 + n)) ≡ u = omega arith in
-    let d = drop-take (2 + n) (u - (2 + n)) m in
-    let s : take (u - (2 + n)) k ≡ encode h.rest = ap (take (u - (2 + n))) r ∙ a ∙ sym d ∙ ap (λ (j : ℕ). drop (2 + n) (take j m)) e ∙ ap (λ (j : ℕ). drop j (take u m)) i2 ∙ h.tail in
-    let l1 = length-take-le (u - (2 + n)) k (omega arith) in
-    let q : parse (u - (2 + n)) (take (u - (2 + n)) k) ≡ h.rest = ap (parse (u - (2 + n))) s ∙ parse-encode h.rest (u - (2 + n)) (omega (arith, ap length s)) in
+    let s : take u (ringed m) ≡ encode h.rest = ap (take u) r ∙ let_go t q.used (2 + n) (omega arith) (omega arith) ∙ ap (λ (j : ℕ). drop j (take q.used t)) i2 ∙ h.tail in
+    let l1 = length-take-le u (ringed m) (omega arith) in
+    let e : parse u (take u (ringed m)) ≡ h.rest = ap (parse u) s ∙ parse-encode h.rest u (omega (arith, ap length s)) in
     record {
       within = omega arith;
-      size = lk;
-      waiting = q;
-      exact = ap encode q ∙ sym s;
-      fine = rw (lk, q) h.fine;
+      size = l;
+      waiting = e;
+      exact = ap encode e ∙ sym s;
+      fine = rw (l, e) h.fine;
     }

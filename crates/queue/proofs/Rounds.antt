@@ -4,15 +4,16 @@ use Rattle.std.proofs.lemmas.Bool.{cases_lt}
 use Rattle.std.proofs.lemmas.Grind.{common_steps}
 use lib.Seq.{take-append-le, drop-append-le, take-append-add, drop-append-add}
 use Rattle.std.proofs.lemmas.List.{drop_all}
-use Rattle.queue.specs.Ring.{round, ahead}
+use Rattle.queue.specs.Ring.{Memory, round, ringed, ahead}
 
 pub length-round : (m : List ℕ) (a : ℕ) → a ≤ length m → length (round m a) ≡ length m
 unfolding round
 length-round m a h = grind (arith, common_steps)
 
--- the length of what is read round
-pub length_is : (m xs : List ℕ) (a : ℕ) → a ≤ length m → round m a ≡ xs → length m ≡ length xs
-length_is m xs a h e = sym (length-round m a h) ∙ ap length e
+-- so many octets are read round, also from a place past their end
+pub length_ringed : (m : Memory) → length (ringed m) ≡ length m.octets
+unfolding round
+length_ringed m = grind (arith, common_steps)
 
 -- parts of two lists in a row, past the first
 past_drop : (xs ys : List ℕ) (n k : ℕ) → n ≡ length xs + k → drop n (xs ++ ys) ≡ drop k ys

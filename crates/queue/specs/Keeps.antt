@@ -14,12 +14,12 @@ positive L p = grind (arith, nat_tests)
 
 pub queue_laws : Laws waits_in carried_by space_in cause_of
 queue_laws = record {
-  least = λ s p e. (parts (length s.ring) p e).0;
-  most = λ s p e. (parts (length s.ring) p e).1.0;
+  least = λ s p e. (parts (length s.ring.octets) p e).0;
+  most = λ s p e. (parts (length s.ring.octets) p e).1.0;
   carried = λ s. s.fine;
   empty = λ s p w e.
-      let h = (parts (length s.ring) p e).1.1 in
+      let h = (parts (length s.ring.octets) p e).1.1 in
       let n : spent (waits_in s) ≡ 0 = ap spent w in
       le-leb _ _ (omega arith);
-  causes = λ s p. positive (length s.ring) p;
+  causes = λ s p. positive (length s.ring.octets) p;
 }

@@ -6,6 +6,15 @@ use Rattle.std.specs.List.{flat_map}
 unfoldable pub round : List ℕ → ℕ → List ℕ
 round m place = drop place m ++ take place m
 
+-- octets that are lent, and the place in them from which they are read
+pub record Memory : Type 0 where
+  pub octets : List ℕ
+  pub start : ℕ
+
+-- all of them, read round from the start
+abbrev pub ringed : Memory → List ℕ
+ringed m = round m.octets m.start
+
 -- the place n octets on in a ring of so many octets
 abbrev pub ahead : ℕ → ℕ → ℕ → ℕ
 ahead ring place n = cond (nat_lt n (ring - place)) (place + n) (n - (ring - place))

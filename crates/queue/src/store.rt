@@ -1,6 +1,6 @@
 ghost use Rattle.std.specs.Prelude.{◌≡◌, ◌≤◌, true, length, take};
 ghost use Rattle.std.specs.List.{list_all};
-ghost use Rattle.queue.specs.Ring.{encode, waits};
+ghost use Rattle.queue.specs.Ring.{ringed, encode, waits};
 ghost use Rattle.queue.specs.Rules.{carried};
 
 use crate::ring::Ring;
@@ -13,8 +13,8 @@ use crate::ring::Ring;
 pub struct Queue<'a> {
     pub(crate) ring: Ring<'a>,
     pub(crate) used: usize,
-    ghost within: { used ≤ length ring },
+    ghost within: { used ≤ length ring.octets },
     // the used octets are the waiting packets and nothing else
-    ghost exact: { encode (waits ring used) ≡ take used ring },
-    ghost fine: { list_all (carried (length ring)) (waits ring used) ≡ true },
+    ghost exact: { encode (waits (ringed ring) used) ≡ take used (ringed ring) },
+    ghost fine: { list_all (carried (length ring.octets)) (waits (ringed ring) used) ≡ true },
 }

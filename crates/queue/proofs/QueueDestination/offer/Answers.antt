@@ -1,4 +1,4 @@
-use Rattle.std.proofs.Common.{◌≡◌, true, ◌/◌, ◌%◌, [], ◌∷◌, length, refl, arith, rules}
+use Rattle.std.proofs.Common.{◌≡◌, ◌∙◌, true, ◌/◌, ◌%◌, [], ◌∷◌, length, refl, arith, rules}
 use Rattle.destination.specs.Destination.{sized}
 use Rattle.queue.proofs.Step.{is_carried, why_full, is_full, has_space, stepped}
 use Rattle.queue.proofs.QueueDestination.offer.Goals as goal
@@ -20,7 +20,7 @@ invariant_of-self c =
     let size : sized p ≡ true = search rules in
     let h : c.to_be_bytes-header.result ≡ length p / 256 ∷ length p % 256 ∷ [] = search rules in
     let a = is_carried q p size (omega arith) in
-    let s = stepped q _ p c.write.new.self c.write-2.new.self a (omega arith) h c.write.ensures c.write-2.ensures in
+    let s = stepped q _ p c.write.new.self c.write-2.new.self a (omega arith) h c.write.ensures.round c.write-2.ensures.round (c.write-2.ensures.size ∙ c.write.ensures.size) in
     record { within = omega arith; exact = s.exact; fine = s.fine }
 
 pub returns : goal.returns
@@ -31,7 +31,7 @@ returns c =
     let h : c.to_be_bytes-header.result ≡ length p / 256 ∷ length p % 256 ∷ [] = search rules in
     let a = is_carried q p size (omega arith) in
     let b = has_space q p (omega arith) in
-    let s = stepped q _ p c.write.new.self c.write-2.new.self a (omega arith) h c.write.ensures c.write-2.ensures in
+    let s = stepped q _ p c.write.new.self c.write-2.new.self a (omega arith) h c.write.ensures.round c.write-2.ensures.round (c.write-2.ensures.size ∙ c.write.ensures.size) in
     let g = s.waiting in
     let z = s.size in
     record {

@@ -1,4 +1,5 @@
 use Rattle.std.proofs.Common.{◌≡◌, ℕ, List, [], length, drop, take, get_or, sym, ap, ◌∙◌, arith, length-take-le}
+use Rattle.queue.specs.Ring.{ringed}
 use Rattle.queue.specs.Queue.{waits_in}
 use Rattle.queue.specs.Rules.{carried}
 use Rattle.queue.proofs.Heads.{oldest_of, popped}
@@ -10,7 +11,7 @@ invariant_of-self c =
     let q = c.args.self.now in
     let o = oldest_of q (omega arith) in
     let n = c.first_len-n.ensures.oldest ∙ ap (λ (ws : List (List ℕ)). length (get_or ws 0 [])) o.is in
-    let p = popped q.ring c.advance.new.self q.used c.first_len-n.result (waits_in q) o n q.within c.advance.ensures in
+    let p = popped q c.advance.new.self c.first_len-n.result o n c.advance.ensures.octets c.advance.ensures.round in
     record { within = p.within; exact = p.exact; fine = p.fine }
 
 pub returns : goal.returns
@@ -19,11 +20,11 @@ returns c =
     let a = c.args.area.now in
     let o = oldest_of q (omega arith) in
     let n = c.first_len-n.ensures.oldest ∙ ap (λ (ws : List (List ℕ)). length (get_or ws 0 [])) o.is in
-    let p = popped q.ring c.advance.new.self q.used c.first_len-n.result (waits_in q) o n q.within c.advance.ensures in
+    let p = popped q c.advance.new.self c.first_len-n.result o n c.advance.ensures.octets c.advance.ensures.round in
     let g = take_one (length a) (waits_in q) o.w o.rest c.if-area-lt-LONGEST.false o.is in
     let f = g.0 in
     let l = length-take-le c.first_len-n.result a (omega arith) in
-    let b : c.read.new.out ≡ o.w = c.read.ensures ∙ ap (λ (j : ℕ). take j (drop 2 q.ring)) (l ∙ n) ∙ o.body in
+    let b : c.read.new.out ≡ o.w = c.read.ensures ∙ ap (λ (j : ℕ). take j (drop 2 (ringed q.ring))) (l ∙ n) ∙ o.body in
     record {
       answer = n ∙ sym (ap length f);
       area = cc;
