@@ -22,13 +22,50 @@ past_drop xs ys n k e = ap (λ (i : ℕ). drop i (xs ++ ys)) e ∙ drop-append-a
 past_take : (xs ys : List ℕ) (n k : ℕ) → n ≡ length xs + k → take n (xs ++ ys) ≡ xs ++ take k ys
 past_take xs ys n k e = ap (λ (i : ℕ). take i (xs ++ ys)) e ∙ take-append-add xs ys k
 
-read_far : (m : List ℕ) (a n : ℕ) → a ≤ length m → n ≤ length m → length m - a ≤ n →
+pub read_near : (m : List ℕ) (a n : ℕ) → n ≤ length m - a → take n (drop a m) ≡ take n (round m a)
+unfolding round
+read_near m a n h =
+    let l = length-drop a m in
+    sym (take-append-le n (drop a m) (take a m) (omega arith))
+
+pub read_far : (m : List ℕ) (a n : ℕ) → a ≤ length m → n ≤ length m → length m - a ≤ n →
     drop a m ++ take (n - (length m - a)) m ≡ take n (round m a)
 unfolding round
 read_far m a n h k f =
     let l = length-drop a m in
     let e = past_take (drop a m) (take a m) n (n - (length m - a)) (omega arith) in
     let t = take-take (n - (length m - a)) a m (omega arith) in cc
+
+pub write_near : (m xs : List ℕ) (a : ℕ) → a + length xs ≤ length m →
+    round (take a m ++ (xs ++ drop (length xs) (drop a m))) a ≡ xs ++ drop (length xs) (round m a)
+unfolding round
+write_near m xs a h =
+    let l = length-drop a m in
+    let lt = length-take-le a m (omega arith) in
+    let d = drop_at (take a m) (xs ++ drop (length xs) (drop a m)) a lt in
+    let t = take_at (take a m) (xs ++ drop (length xs) (drop a m)) a lt in
+    let e = drop-append-le (length xs) (drop a m) (take a m) (omega arith) in
+    let s = append_assoc xs (drop (length xs) (drop a m)) (take a m) in cc
+
+pub write_far : (m xs : List ℕ) (a k j : ℕ) → a ≤ length m → k ≡ length m - a → length xs ≤ length m → k ≤ length xs → j ≡ length xs - k →
+    round (drop k xs ++ drop j (take a m ++ take k xs)) a ≡ xs ++ drop (length xs) (round m a)
+unfolding round
+write_far m xs a k j h ek lx kx ej =
+    let l = length-drop a m in
+    let lt = length-take-le a m h in
+    let lk = length-take-le k xs kx in
+    let ld = length-drop k xs in
+    let lj = length-drop j (take a m) in
+    let d : drop j (take a m ++ take k xs) ≡ drop j (take a m) ++ take k xs = drop-append-le j (take a m) (take k xs) (omega arith) in
+    let s = append_assoc (drop k xs) (drop j (take a m)) (take k xs) in
+    let b = drop k xs ++ drop j (take a m) in
+    let lb : length b ≡ a = omega (arith, length-append (drop k xs) (drop j (take a m))) in
+    let d1 = drop_at b (take k xs) a lb in
+    let t1 = take_at b (take k xs) a lb in
+    let r = past_drop (drop a m) (take a m) (length xs) j (omega arith) in
+    let w = take-append-drop k xs in
+    let v = append_assoc (take k xs) (drop k xs) (drop j (take a m)) in
+    cc
 
 onwards_near : (m : List ℕ) (a n : ℕ) → n < length m - a → round m (a + n) ≡ round (round m a) n
 unfolding round
@@ -87,53 +124,44 @@ written m n p a u f h k l ef e =
     let o2 : round n f ≡ round k' u = ap (round n) ef ∙ ap (λ (z : ℕ). round n (ahead z a u)) (sym l) ∙ onwards n a u (omega arith) (omega arith) in
     laid_behind t k' p u (omega arith) (omega arith) (sym o2 ∙ e ∙ ap (λ (z : List ℕ). p ++ drop (length p) z) o1)
 
--- what is read in two pieces, and what is written in two
-pub read_pieces : (m : List ℕ) (a n k : ℕ) → a ≤ length m → n ≤ length m → k ≡ min n (length m - a) → take k (drop a m) ++ take (n - k) m ≡ take n (round m a)
+-- so many octets from u on, as read from a place; none of them lies before that place
+pub read_on : (m : List ℕ) (a u n f : ℕ) → a ≤ length m → u + n ≤ length m → f ≡ ahead (length m) a u → take n (round m f) ≡ take n (drop u (round m a))
 unfolding round
-read_pieces m a n k h l e =
-    elim (cases_lt (length m - a) n) [
-      | inr s ↦
-          (let i : k ≡ n = omega arith in
-          let z : n - k ≡ 0 = omega arith in
-          let r : take n (drop a m) ≡ take n (round m a) = grind (arith, common_steps) in
-          let w = append-nil (take n (drop a m)) in
-          cc)
-      | inl g ↦
-          (let i : k ≡ length m - a = omega arith in
-          let r = read_far m a n h l (omega arith) in
-          let d = length-drop a m in
-          let w : take k (drop a m) ≡ drop a m = take_all k (drop a m) (omega arith) in
-          cc)
-    ]
+read_on m a u n f h l e =
+    let t = round m a in
+    let o = onwards m a u h (omega arith) in
+    ap (λ (z : ℕ). take n (round m z)) e ∙ ap (take n) o ∙ take-append-le n (drop u t) (take u t) (omega (arith, length-round m a h, length-drop u t))
 
-pub write_pieces : (m xs x y : List ℕ) (a k : ℕ) → a ≤ length m → length xs ≤ length m → k ≡ min (length xs) (length m - a) → x ≡ take k xs → y ≡ drop k xs →
-    round (y ++ drop (length y) (take a m ++ (x ++ drop k (drop a m)))) a ≡ xs ++ drop (length xs) (round m a)
-unfolding round
-write_pieces m xs x y a k h l e ex ey =
+-- what the code's two ways of reading and of writing leave
+pub read_one : (m : List ℕ) (a n k : ℕ) → n ≤ length m - a → k ≡ n → take k (drop a m) ≡ take n (round m a)
+read_one m a n k h e = let r = read_near m a n h in cc
+
+pub read_two : (m out x y : List ℕ) (a t k j : ℕ) → a ≤ length m → length out ≤ length m → t ≡ length m - a → t ≤ length out →
+    x ≡ take t (drop a m) → y ≡ take j m → j ≡ length out - t → length out - t ≤ k →
+    take t (x ++ drop t out) ++ (y ++ drop k (drop t (x ++ drop t out))) ≡ take (length out) (round m a)
+read_two m out x y a t k j h l et lt ex ey ej lk =
     let ld = length-drop a m in
-    let lt = length-take-le a m h in
-    let ly : length y ≡ length xs - k = ap length ey ∙ length-drop k xs in
-    let rest = x ++ drop k (drop a m) in
-    let front = y ++ drop (length y) (take a m) in
-    let lf : length front ≡ a = omega (arith, length-append y (drop (length y) (take a m)), length-drop (length y) (take a m)) in
-    let d : drop (length y) (take a m ++ rest) ≡ drop (length y) (take a m) ++ rest = drop-append-le (length y) (take a m) rest (omega arith) in
-    let s = append_assoc y (drop (length y) (take a m)) rest in
-    let d1 = drop_at front rest a lf in
-    let t1 = take_at front rest a lf in
-    elim (cases_lt (length m - a) (length xs)) [
-      | inr n ↦
-          (let i : k ≡ length xs = omega arith in
-          let wx : take k xs ≡ xs = take_all k xs (omega arith) in
-          let wy : drop k xs ≡ [] = drop_all k xs (omega arith) in
-          let r = drop-append-le (length xs) (drop a m) (take a m) (omega arith) in
-          let v = append_assoc xs (drop k (drop a m)) (take a m) in
-          cc)
-      | inl f ↦
-          (let i : k ≡ length m - a = omega arith in
-          let n : drop k (drop a m) ≡ [] = drop_all k (drop a m) (omega arith) in
-          let r = past_drop (drop a m) (take a m) (length xs) (length y) (omega arith) in
-          let w = take-append-drop k xs in
-          let z = append-nil x in
-          let v = append_assoc x y (drop (length y) (take a m)) in
-          cc)
-    ]
+    let w : take t (drop a m) ≡ drop a m = take_all t (drop a m) (omega arith) in
+    let lx : length x ≡ t = ap length (ex ∙ w) ∙ ld ∙ sym et in
+    let t1 = take_at x (drop t out) t lx in
+    let d1 = drop_at x (drop t out) t lx in
+    let lo = length-drop t out in
+    let n : drop k (drop t out) ≡ [] = drop_all k (drop t out) (omega arith) in
+    let z = append-nil y in
+    let r = read_far m a (length out) h l (omega arith) in
+    let e : j ≡ length out - (length m - a) = omega arith in cc
+
+pub write_one : (m xs x : List ℕ) (a k : ℕ) → a + length xs ≤ length m → k ≡ length xs → x ≡ xs →
+    round (take a m ++ (x ++ drop k (drop a m))) a ≡ xs ++ drop (length xs) (round m a)
+write_one m xs x a k h e f = let w = write_near m xs a h in cc
+
+pub write_two : (m xs x y : List ℕ) (a t j k : ℕ) → a ≤ length m → length xs ≤ length m → t ≡ length m - a → t ≤ length xs →
+    x ≡ take t xs → y ≡ take k (drop t xs) → k ≡ length xs - t → j ≡ length xs - t →
+    round (y ++ drop j (take a m ++ (x ++ drop t (drop a m)))) a ≡ xs ++ drop (length xs) (round m a)
+write_two m xs x y a t j k h l et lt ex ey ek ej =
+    let ld = length-drop a m in
+    let lx = length-drop t xs in
+    let w : take k (drop t xs) ≡ drop t xs = take_all k (drop t xs) (omega arith) in
+    let n : drop t (drop a m) ≡ [] = drop_all t (drop a m) (omega arith) in
+    let z = append-nil x in
+    let r = write_far m xs a t j h et l lt ej in cc

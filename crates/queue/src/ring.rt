@@ -39,10 +39,14 @@ fn write_round(memory: &mut [u8], at: usize, octets: &[u8])
     requires { (at ≤ length memory.old) × (length octets.now ≤ length memory.old) }
     ensures { round memory.new at ≡ laid octets.now (round memory.old at) }
 {
-    let near = octets.len().min(memory.len() - at);
-    let (front, back) = octets.split_at(near);
-    memory[at..at + near].copy_from_slice(front);
-    memory[..back.len()].copy_from_slice(back);
+    let n = octets.len();
+    let to_end = memory.len() - at;
+    if n <= to_end {
+        memory[at..at + n].copy_from_slice(octets);
+    } else {
+        memory[at..].copy_from_slice(&octets[..to_end]);
+        memory[..n - to_end].copy_from_slice(&octets[to_end..]);
+    }
 }
 
 impl<'a> Ring<'a> {
@@ -74,11 +78,14 @@ impl<'a> Ring<'a> {
         ensures { out.new ≡ take (length out.old) (drop at (ringed self.now)) }
     {
         let from = onward(self.octets.len(), self.start, at);
-        let near = out.len().min(self.octets.len() - from);
-        let (front, back) = out.split_at_mut(near);
-        let (before, after) = self.octets.split_at(from);
-        front.copy_from_slice(&after[..near]);
-        back.copy_from_slice(&before[..back.len()]);
+        let n = out.len();
+        let to_end = self.octets.len() - from;
+        if n <= to_end {
+            out.copy_from_slice(&self.octets[from..from + n]);
+        } else {
+            out[..to_end].copy_from_slice(&self.octets[from..]);
+            out[to_end..].copy_from_slice(&self.octets[..n - to_end]);
+        }
     }
 
     /// Writes the octets from `at` on.
