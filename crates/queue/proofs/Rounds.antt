@@ -1,5 +1,5 @@
 -- A memory read round from a place: reading, writing, and going on
-use Rattle.std.proofs.Common.{◌≡◌, ℕ, ◌+◌, ◌-◌, ◌≤◌, List, [], ◌++◌, length, take, drop, sym, refl, ap, ◌∙◌, append_assoc, append-nil, arith, length-append, length-drop, take-append-drop, length-take-le, take_all, take-take, drop-drop, take_at, take-add, drop_at, min, inl, inr, lt-ltb, le-ltb, ◌<◌}
+use Rattle.std.proofs.Common.{◌≡◌, ℕ, ◌+◌, ◌-◌, ◌≤◌, List, [], ◌++◌, length, take, drop, sym, refl, ap, ◌∙◌, append_assoc, append-nil, arith, length-append, length-drop, take-append-drop, length-take-le, take_all, take-take, drop-drop, take_at, take-add, drop_at, inl, inr, lt-ltb, le-ltb, ◌<◌}
 use Rattle.std.proofs.lemmas.Bool.{cases_lt}
 use Rattle.std.proofs.lemmas.Grind.{common_steps}
 use lib.Seq.{take-append-le, drop-append-le, take-append-add, drop-append-add}
@@ -14,6 +14,11 @@ length-round m a h = grind (arith, common_steps)
 pub length_ringed : (m : Memory) → length (ringed m) ≡ length m.octets
 unfolding round
 length_ringed m = grind (arith, common_steps)
+
+-- from the front on they stand as they are
+pub round_front : (m : List ℕ) → round m 0 ≡ m
+unfolding round
+round_front m = append-nil m
 
 -- parts of two lists in a row, past the first
 past_drop : (xs ys : List ℕ) (n k : ℕ) → n ≡ length xs + k → drop n (xs ++ ys) ≡ drop k ys

@@ -1,14 +1,14 @@
 -- One offer: what it is answered, by the code's tests, and what the queue holds after it
-use Rattle.std.proofs.Common.{◌≡◌, ℕ, ◌+◌, ◌<◌, ◌≤◌, ◌/◌, ◌%◌, true, false, List, ◌∷◌, [], ◌++◌, length, take, drop, arith}
+use Rattle.std.proofs.Common.{◌≡◌, ℕ, ◌+◌, ◌<◌, ◌≤◌, true, false, List, ◌∷◌, [], ◌++◌, length, take, arith}
 use Rattle.std.proofs.lemmas.Bool.Decides.{nat_tests}
 use Rattle.std.proofs.lemmas.List.Folds.{list_all-append}
 use Rattle.std.specs.List.{list_all}
 use Rattle.destination.specs.Destination.{sized}
 use Rattle.queue.specs.declared.store.Queue.{Queue}
-use Rattle.queue.specs.Ring.{Memory, ringed, encode, waits}
+use Rattle.queue.specs.Ring.{Memory, ringed, encode, waits, put_at}
 use Rattle.queue.specs.Rules.{carried, spent}
 use Rattle.queue.specs.Queue.{waits_in, carried_by, space_in, cause_of}
-use Rattle.queue.proofs.Frames.{spent_used, laid_down, grown, exact_again}
+use Rattle.queue.proofs.Frames.{spent_used, grown, exact_again}
 use Rattle.queue.proofs.Rounds.{length_ringed}
 
 module _ (q : Queue) (p : List ℕ) (size : sized p ≡ true) (fits : 2 + length p ≤ length q.ring.octets) where
@@ -34,13 +34,11 @@ pub record Stepped (q : Queue) (m : Memory) (p : List ℕ) (u : ℕ) : Type 0 wh
   pub exact : encode (waits (ringed m) u) ≡ take u (ringed m)
   pub fine : list_all (carried (length m.octets)) (waits (ringed m) u) ≡ true
 
-pub stepped : (q : Queue) (header p : List ℕ) (n m : Memory) → carried_by q p ≡ true → q.used + (2 + length p) ≤ length q.ring.octets → header ≡ length p / 256 ∷ length p % 256 ∷ [] →
-    ringed n ≡ take q.used (ringed q.ring) ++ (header ++ drop (q.used + length header) (ringed q.ring)) → ringed m ≡ take (q.used + 2) (ringed n) ++ (p ++ drop (q.used + 2 + length p) (ringed n)) →
-    length m.octets ≡ length q.ring.octets → Stepped q m p (q.used + (2 + length p))
-stepped q header p n m c l eh en em s =
+pub stepped : (q : Queue) (p : List ℕ) (m : Memory) → carried_by q p ≡ true → q.used + (2 + length p) ≤ length q.ring.octets →
+    ringed m ≡ put_at (ringed q.ring) q.used p → length m.octets ≡ length q.ring.octets → Stepped q m p (q.used + (2 + length p))
+stepped q p m c l d s =
     let t = ringed q.ring in
     let k : q.used + (2 + length p) ≤ length t = omega (arith, length_ringed q.ring) in
-    let d = laid_down t header p (ringed n) (ringed m) q.used k eh en em in
     let g = grown t p (ringed m) q.used k d q.exact in
     let a = list_all-append (carried (length q.ring.octets)) (waits_in q) (p ∷ []) in
     let f = q.fine in

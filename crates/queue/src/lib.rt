@@ -2,8 +2,9 @@
 
 #![tactic(auto)]
 
-ghost use Rattle.std.specs.Prelude.{◌≡◌, ℕ, ◌+◌, ◌<◌, ◌≤◌, List, [], length, nat_le, slice_index_or};
+ghost use Rattle.std.specs.Prelude.{◌≡◌, ℕ, ◌+◌, ◌^◌, ◌<◌, ◌≤◌, true, List, [], length, nat_le, slice_index_or};
 ghost use Rattle.queue.specs.Keeps.{queue_laws};
+ghost use Rattle.queue.specs.Ring.{ringed, put_at};
 ghost use Rattle.queue.specs.Queue.{waits_in, carried_by, space_in, cause_of};
 ghost use Rattle.queue.specs.Rules.{carried, why};
 
@@ -34,6 +35,23 @@ impl<'a> Queue<'a> {
             ring: Ring::new(memory),
             used: 0,
         }
+    }
+
+    /// Lays a packet down behind the others.
+    fn push(&mut self, packet: &[u8])
+        requires carried { carried_by self.old packet.now ≡ true }
+        requires fits { self.old.used + (2 + length packet.now) ≤ length self.old.ring.octets }
+        requires short { length self.old.ring.octets < 2 ^ 64 }
+        ensures octets { ringed self.new.ring ≡ put_at (ringed self.old.ring) self.old.used packet.now }
+        ensures used { self.new.used ≡ self.old.used + (2 + length packet.now) }
+        ensures start { self.new.ring.start ≡ self.old.ring.start }
+        ensures size { length self.new.ring.octets ≡ length self.old.ring.octets }
+    {
+        let n = packet.len();
+        let header = (n as u16).to_be_bytes();
+        self.ring.write(self.used, &header);
+        self.ring.write(self.used + 2, packet);
+        self.used += 2 + n;
     }
 
     /// The length of the oldest packet.
@@ -80,10 +98,7 @@ impl<'a> Destination for Queue<'a> {
         if 2 + n > size - self.used {
             return Err(Refused::NotNow(Cause::NoSpace as u16));
         }
-        let header = (n as u16).to_be_bytes();
-        self.ring.write(self.used, &header);
-        self.ring.write(self.used + 2, packet);
-        self.used += 2 + n;
+        self.push(packet);
         Ok(())
     }
 

@@ -1,6 +1,9 @@
-use Rattle.std.proofs.Common.{◌≡◌, ◌∙◌, true, ◌/◌, ◌%◌, [], ◌∷◌, length, refl, arith, rules}
+use Rattle.std.proofs.Common.{true, ◌≡◌, refl, arith, ap, ◌∙◌, rules}
 use Rattle.destination.specs.Destination.{sized}
+use Rattle.queue.specs.Ring.{ringed, waits}
+use Rattle.queue.proofs.Rounds.{round_front}
 use Rattle.queue.proofs.Step.{is_carried, why_full, is_full, has_space, stepped}
+use Rattle.queue.proofs.Same.{same_queue}
 use Rattle.queue.proofs.QueueDestination.offer.Goals as goal
 
 pub returns-then-n-size-2 : goal.returns-then-n-size-2
@@ -11,28 +14,29 @@ returns-then-n-size-2 c =
     let a = is_carried q p size (omega arith) in
     let y = why_full q p size (omega arith) in
     let b = is_full q p (omega arith) in
-    record { answer = simp (a, b, y); waiting = simp (a, b); fixed = λ p. refl; never = λ _. refl; not_now = λ _. refl }
+    let z = round_front (ringed q.ring) in
+    record {
+      answer = simp (a, b, y);
+      waiting = simp (a, b) (grind (arith, z));
+      fixed = λ p. grind arith;
+      never = λ e. absurd (cc);
+      not_now = λ _. same_queue _ _ refl (omega arith);
+    }
 
-pub invariant_of-self : goal.invariant_of-self
-invariant_of-self c =
-    let q = c.args.self.now in
-    let p = c.args.packet.now in
-    let size : sized p ≡ true = search rules in
-    let h : c.to_be_bytes-header.result ≡ length p / 256 ∷ length p % 256 ∷ [] = search rules in
-    let a = is_carried q p size (omega arith) in
-    let s = stepped q _ p c.write.new.self c.write-2.new.self a (omega arith) h c.write.ensures.round c.write-2.ensures.round (c.write-2.ensures.size ∙ c.write.ensures.size) in
-    record { within = omega arith; exact = s.exact; fine = s.fine }
+pub push-requires : goal.push-requires
+push-requires c =
+    let size : sized c.args.packet.now ≡ true = search rules in
+    record { carried = is_carried c.args.self.now c.args.packet.now size (omega arith); fits = omega arith; short = omega arith }
 
 pub returns : goal.returns
 returns c =
     let q = c.args.self.now in
     let p = c.args.packet.now in
     let size : sized p ≡ true = search rules in
-    let h : c.to_be_bytes-header.result ≡ length p / 256 ∷ length p % 256 ∷ [] = search rules in
     let a = is_carried q p size (omega arith) in
     let b = has_space q p (omega arith) in
-    let s = stepped q _ p c.write.new.self c.write-2.new.self a (omega arith) h c.write.ensures.round c.write-2.ensures.round (c.write-2.ensures.size ∙ c.write.ensures.size) in
-    let g = s.waiting in
+    let s = stepped q p c.push.new.self.ring a (omega arith) c.push.ensures.octets c.push.ensures.size in
+    let g = ap (waits (ringed c.push.new.self.ring)) c.push.ensures.used ∙ s.waiting in
     let z = s.size in
     record {
       answer = simp (a, b);
