@@ -1,4 +1,4 @@
-use Rattle.std.proofs.Common.{true, ◌≡◌, refl, arith, ap, ◌∙◌, rules}
+use Rattle.std.proofs.Common.{true, ◌≡◌, arith, ap, ◌∙◌, rules}
 use Rattle.destination.specs.Destination.{sized}
 use Rattle.queue.specs.Ring.{ringed, waits}
 use Rattle.queue.proofs.Rounds.{round_front}
@@ -20,7 +20,7 @@ returns-then-n-size-2 c =
       waiting = simp (a, b) (grind (arith, z));
       fixed = λ p. grind arith;
       never = λ e. absurd (cc);
-      not_now = λ _. same_queue _ _ refl (omega arith);
+      not_now = λ _. same_queue _ _ (grind arith) (omega arith);
     }
 
 pub push-requires : goal.push-requires
