@@ -1,6 +1,7 @@
 ghost use Rattle.std.specs.Prelude.{◌≡◌, map};
 ghost use Rattle.bus.specs.Arrival.{rank_of, Oldest};
 ghost use Rattle.bus.specs.Kept.{Ranked};
+ghost use Rattle.std.proofs.Common.{rules};
 
 use crate::mailbox::Mailbox;
 use search::{Places, least_from};
@@ -15,6 +16,8 @@ impl Places for Arrivals<'_> {
     type Key = u8;
 
     ghost keys = { λ a. map rank_of a.boxes.now };
+
+    ghost apart = { Prim.search rules };
 
     fn count(&self) -> usize {
         self.boxes.len()
