@@ -1,5 +1,6 @@
 //! The lines of a call script.
-ghost use Rattle.std.specs.Prelude.{◌≡◌, ◌≢◌, Some, MatchResult};
+ghost use Rattle.std.specs.Prelude.{◌≡◌, ◌≢◌, length, Some, MatchResult};
+ghost use Rattle.std.specs.Iterator.{at_most};
 ghost use Rattle.script.specs.declared.line.Keyword.{Keyword};
 ghost use Rattle.script.specs.Keyword.{word_of};
 
@@ -115,11 +116,36 @@ fn number_of(keyword: Keyword, word: Option<&[u8]>, most: u64) -> Result<u64, Li
     }
 }
 
+fn is_blank(octet: u8) -> bool {
+    matches!(octet, b' ' | b'\t' | b'\r')
+}
+
+// The words of a line, between blanks. No `split`: its piece for each of many blanks costs as much
+// as a word.
+#[derive(Drop)]
+struct Words<'a>(&'a [u8]);
+
+impl<'a> Iterator for Words<'a> {
+    type Item = &'a [u8];
+
+    ghost remaining = { λ words. at_most (length words.0.now) };
+
+    fn next(&mut self) -> Option<&'a [u8]> {
+        let start = self.0.iter().position(|octet| !is_blank(*octet))?;
+        let (_, rest) = self.0.split_at(start);
+        let end = rest.iter().position(|octet| is_blank(*octet));
+        let (word, rest) = rest.split_at(end.unwrap_or(rest.len()));
+        self.0 = match rest {
+            [_, rest @ ..] => rest,
+            [] => &[],
+        };
+        Some(word)
+    }
+}
+
 /// Reads a line, without its newline.
 pub fn read_line(heap: Global, text: &[u8]) -> Result<Line, LineError> {
-    let mut words = text
-        .split(|octet| matches!(*octet, b' ' | b'\t' | b'\r'))
-        .filter(|word| !word.is_empty());
+    let mut words = Words(text);
     let first = match words.next() {
         None | Some([b'#', ..]) => return Ok(Line::Blank),
         Some(word) => word,
