@@ -167,3 +167,23 @@ pub fn read_line(heap: Global, text: &[u8]) -> Result<Line, LineError> {
         Keyword::Clock => Line::Call(Call::SetClock(number_of(keyword, second, u64::MAX)?)),
     })
 }
+
+#[cfg(test)]
+mod tests {
+    use super::*;
+
+    #[test]
+    fn words(rt: HostRuntime) {
+        let mut words = Words(b" \t\r clock\t\t 7\r");
+        assert!(rt; matches!(words.next(), Some(b"clock")));
+        assert!(rt; matches!(words.next(), Some(b"7")));
+        assert!(rt; words.next().is_none());
+        assert!(rt; words.next().is_none());
+    }
+
+    #[test]
+    fn no_words(rt: HostRuntime) {
+        assert!(rt; Words(b"").next().is_none());
+        assert!(rt; Words(b"\r\t  ").next().is_none());
+    }
+}
